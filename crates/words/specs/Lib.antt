@@ -1,0 +1,12 @@
+pub mod Address
+pub mod Answers
+pub mod Codes
+pub mod Count
+pub mod Crc
+pub mod CrcLaws
+pub mod CrcSteps
+pub mod Halves
+pub mod Load
+pub mod Parity
+pub mod Slices
+pub mod Table
