@@ -6,6 +6,7 @@ pub mod Crc
 pub mod CrcLaws
 pub mod CrcSteps
 pub mod Halves
+pub mod Lines
 pub mod Load
 pub mod Parity
 pub mod Slices

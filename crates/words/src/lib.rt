@@ -6,5 +6,6 @@ pub mod codes;
 pub mod count;
 pub mod crc;
 pub mod halves;
+pub mod lines;
 pub mod load;
 pub mod parity;

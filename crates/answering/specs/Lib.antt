@@ -1,0 +1,6 @@
+pub mod Choice
+pub mod Events
+pub mod Keeps
+pub mod Listening
+pub mod Parts
+pub mod Rules

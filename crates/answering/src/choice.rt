@@ -1,0 +1,124 @@
+// Which of the receiver's rules a slice meets: first that fits.
+use receiver::side::Receiver;
+use receiver::side::has_error;
+use receiver::side::is_data_in_ready;
+use receiver::side::is_data_out_ready;
+use words::lines::Sent;
+ghost use mathlib.Core.Path.{_≡_};
+ghost use Rattle.answering.specs.Choice.{decidedClosed, decidedCrc, decidedWord, decidedOpen, decided};
+
+pub enum Rule {
+    // 1. Open with another.
+    Other,
+    // 2. Closed: it opens, or not.
+    Opens,
+    Refuses,
+    // 3. An error bit other than BC OFL.
+    Faulted,
+    // 4. The word before had bad parity.
+    BadParity,
+    // 5. The transmitter is off line.
+    OffLine,
+    // 6. REJ without RCV DAT.
+    Rejects,
+    // 7. REJ with RCV DAT.
+    Truncates,
+    // 8. A CRC, the first time, and the next time: bad, a good due one, a good last one.
+    TakesCrc,
+    BadCrc,
+    Restarts,
+    Waits,
+    Succeeds,
+    // 9. A word: it is stored, or not.
+    Stores,
+    NotReady,
+    // 10. Nothing sent.
+    Null,
+}
+
+fn decide_closed(r: Receiver, sent: Sent) -> Rule
+    ensures { λ x. ⌜ x ≡ decidedClosed r sent ⌝ }
+{
+    if (sent.code == 2) & r.commands.receiveWord & !has_error(r) & is_data_in_ready(r) {
+        return Rule::Opens;
+    }
+    Rule::Refuses
+}
+
+// A CRC, due or the last. The verdict is on the one first taken.
+fn decide_crc(r: Receiver, due: bool) -> Rule
+    ensures { λ x. ⌜ x ≡ decidedCrc r due ⌝ }
+{
+    if !r.channel.owed {
+        return Rule::TakesCrc;
+    }
+    if !r.channel.good {
+        return Rule::BadCrc;
+    }
+    if due {
+        return Rule::Restarts;
+    }
+    if is_data_out_ready(r) & !r.channel.truncated {
+        return Rule::Waits;
+    }
+    Rule::Succeeds
+}
+
+fn decide_word(r: Receiver) -> Rule
+    ensures { λ x. ⌜ x ≡ decidedWord r ⌝ }
+{
+    if (r.commands.receiveData | r.commands.receiveWord) & is_data_in_ready(r) {
+        return Rule::Stores;
+    }
+    Rule::NotReady
+}
+
+fn decide_open(r: Receiver, sent: Sent) -> Rule
+    ensures { λ x. ⌜ x ≡ decidedOpen r sent ⌝ }
+{
+    // An error bit other than BC OFL.
+    let fault = r.faults.timeOut
+        | r.faults.parity
+        | r.faults.transmissionError
+        | r.faults.memoryOverflow
+        | r.faults.nonexistentLocation;
+    if fault {
+        return Rule::Faulted;
+    }
+    if r.channel.badParity {
+        return Rule::BadParity;
+    }
+    let code = sent.code;
+    if code == 0 {
+        return Rule::OffLine;
+    }
+    if r.modes.reject & !r.commands.receiveData {
+        return Rule::Rejects;
+    }
+    if r.modes.reject & r.commands.receiveData & (code != 3) & !r.channel.owed {
+        return Rule::Truncates;
+    }
+    match code {
+        3 => decide_crc(r, false),
+        2 => {
+            if r.channel.block == 128 {
+                return decide_crc(r, true);
+            }
+            decide_word(r)
+        }
+        _ => Rule::Null,
+    }
+}
+
+// The transmitter `from` has sent this to the receiver.
+pub fn decide(r: Receiver, from: u16, sent: Sent) -> Rule
+    ensures { λ x. ⌜ x ≡ decided r from sent ⌝ }
+{
+    if r.channel.opened & (r.modes.sender != from) {
+        return Rule::Other;
+    }
+    if !r.channel.opened {
+        return decide_closed(r, sent);
+    }
+    decide_open(r, sent)
+}

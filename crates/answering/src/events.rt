@@ -1,0 +1,159 @@
+// What can happen to a receiver in a slice of its channel.
+use receiver::requests::fail;
+use receiver::requests::request;
+use receiver::side::Channel;
+use receiver::side::Receiver;
+use receiver::side::has_error;
+use silos::WORDS;
+use words::codes::Codes;
+use words::crc::crc_with_word;
+use words::lines::Sent;
+use words::parity::parity_is_good;
+ghost use mathlib.Core.Path.{_≡_};
+ghost use Prim.Native.Nat.{_≤_};
+ghost use Rattle.answering.specs.Events.{showing, closed, parityFailed, transmissionFailed, rejectCompleted, succeeded, wordKept, wordStored, opening, crcTaken, restarted, truncatedNow};
+
+// Bits 0 to 3 of RSR: the codes of this slice, unless an error stood before it.
+pub fn show_codes(r: Receiver, a: u16, b: u16) -> Receiver
+    ensures { λ x. ⌜ x ≡ showing r a b ⌝ }
+{
+    let shown = r.shown;
+    let frozen = has_error(r);
+    let mut next = r;
+    next.shown = shown.show(frozen, a, b);
+    next
+}
+
+// The channel closes, which clears RCV WD, RCV DAT and REJ. No longer open, it is not truncated and has no mark of the period.
+pub fn close(r: Receiver) -> Receiver
+    ensures { λ x. ⌜ x ≡ closed r ⌝ }
+{
+    let mut next = r;
+    next.commands.receiveData = false;
+    next.commands.receiveWord = false;
+    next.modes.reject = false;
+    next.channel.opened = false;
+    next.channel.truncated = false;
+    next.mark = false;
+    next
+}
+
+// PAR.
+pub fn fail_parity(r: Receiver) -> Receiver
+    ensures { λ x. ⌜ x ≡ parityFailed r ⌝ }
+{
+    let mut faults = r.faults;
+    faults.parity = true;
+    fail(r, faults)
+}
+
+// TXM ERR.
+pub fn fail_transmission(r: Receiver) -> Receiver
+    ensures { λ x. ⌜ x ≡ transmissionFailed r ⌝ }
+{
+    let mut faults = r.faults;
+    faults.transmissionError = true;
+    fail(r, faults)
+}
+
+// RECOM.
+pub fn complete_reject(r: Receiver) -> Receiver
+    ensures { λ x. ⌜ x ≡ rejectCompleted r ⌝ }
+{
+    let mut next = r;
+    next.outcome.rejectComplete = true;
+    request(next)
+}
+
+// SUC TXF, which clears the codes shown, and RECOM if the message was truncated.
+pub fn succeed(r: Receiver) -> Receiver
+    ensures { λ x. ⌜ x ≡ succeeded r ⌝ }
+{
+    let rejectComplete = r.channel.truncated | r.outcome.rejectComplete;
+    let mut next = r;
+    next.outcome.rejectComplete = rejectComplete;
+    next.outcome.success = true;
+    next.shown = Codes::none();
+    request(next)
+}
+
+// The word is in the silo, in the CRC and in the count of 128, its parity is noted, and the period's mark is cleared.
+fn keep_word(r: Receiver, sent: Sent) -> Receiver
+    requires { ⌜ r .channel .block ≤ 128 ⌝ }
+    ensures { λ x. ⌜ x ≡ wordKept r sent ⌝ }
+{
+    let silo = r.silo;
+    let crc = crc_with_word(r.channel.crc, sent.word);
+    let badParity = !parity_is_good(sent.word, sent.parity);
+    let block = r.channel.block + 1;
+    let mut next = r;
+    next.silo = silo.put(WORDS, sent.word);
+    next.channel.badParity = badParity;
+    next.channel.block = block;
+    next.channel.crc = crc;
+    next.mark = false;
+    next
+}
+
+// A word stored with RCV DAT clear makes a request.
+pub fn store_word(r: Receiver, sent: Sent) -> Receiver
+    requires { ⌜ r .channel .block ≤ 128 ⌝ }
+    ensures { λ x. ⌜ x ≡ wordStored r sent ⌝ }
+{
+    let next = keep_word(r, sent);
+    if r.commands.receiveData {
+        return next;
+    }
+    request(next)
+}
+
+// The channel opens with the transmitter `from`, everything afresh.
+pub fn open_channel(r: Receiver, from: u16) -> Receiver
+    ensures { λ x. ⌜ x ≡ opening r from ⌝ }
+{
+    let channel = Channel {
+        opened: true,
+        owed: false,
+        good: false,
+        badParity: false,
+        truncated: false,
+        block: 0,
+        crc: 0,
+    };
+    let mut next = r;
+    next.modes.sender = from;
+    next.channel = channel;
+    next
+}
+
+// A CRC is taken: its verdict, from now on owed, is whether it is the receiver's own. Its parity is not checked.
+pub fn take_crc(r: Receiver, sent: Sent) -> Receiver
+    ensures { λ x. ⌜ x ≡ crcTaken r sent ⌝ }
+{
+    let good = sent.word == r.channel.crc;
+    let mut next = r;
+    next.channel.owed = true;
+    next.channel.good = good;
+    next
+}
+
+// A good due CRC: the count of 128 and the CRC start again, and no verdict is owed.
+pub fn restart(r: Receiver) -> Receiver
+    ensures { λ x. ⌜ x ≡ restarted r ⌝ }
+{
+    let mut next = r;
+    next.channel.owed = false;
+    next.channel.good = false;
+    next.channel.block = 0;
+    next.channel.crc = 0;
+    next
+}
+
+// Truncation: it is marked until the receiver closes.
+pub fn mark_truncated(r: Receiver) -> Receiver
+    ensures { λ x. ⌜ x ≡ truncatedNow r ⌝ }
+{
+    let mut next = r;
+    next.channel.truncated = true;
+    next
+}

@@ -1,0 +1,124 @@
+-- A part of a fitted unit's block replaced: what stays as it was, and that the state stays in range where the unit does.
+-- Assumes nothing.
+use mathlib.Core.Bool.{true}
+use mathlib.Core.List.{List}
+use mathlib.Core.Path.{_≡_, refl, ap, _∙_}
+use Prim.Native.Nat.{ℕ, zero, suc, _+_, _≤_, _<_}
+use native.Mathlib.Omega.{arith}
+use borrow.Author.Tests.{eqb-true, eqb-false, ltb-true, ltb-false}
+use lib.Dec.{eqb, ltb}
+use lib.ListN.{length}
+use Rattle.laws.specs.Pick.{by}
+use Rattle.codec.specs.LimitLaws.{within-before, within-past}
+use Rattle.codec.specs.Limits.{unitLimits, transmitterLimits, receiverLimits, masterLimits}
+use Rattle.codec.specs.Window.{cell, window, splice}
+use Rattle.codec.specs.WindowLaws.{length-splice, window-before, window-after, cell-before, cell-past}
+use Rattle.cells.specs.Layout.{countIn, holderIn, unitPlace, transmitterAddress, receiverAddress, memoryLength}
+use Rattle.cells.specs.RangeLaws.{UnitInRange, in-range-says, in-range-is, unit-is}
+use Rattle.cells.specs.Ranges.{unitInRange, unitsInRange, inRange}
+use Rattle.cells.specs.Search.{firstTransmitter, firstReceiver, first-agrees}
+
+-- ---- a splice and a unit that it does not touch
+
+module _ (cells : List ℕ) (at : ℕ) (w : List ℕ) (fits : at + length w ≤ length cells) where
+  pub unit-before : (b : ℕ) → b + 214 ≤ at → unitInRange (splice cells at w) b ≡ unitInRange cells b
+  unfolding unitInRange
+  unit-before b h =
+      rw (
+        within-before cells at w fits b unitLimits (omega arith),
+        within-before cells at w fits (b + 4) transmitterLimits (omega arith),
+        within-before cells at w fits (b + 76) receiverLimits (omega arith),
+        within-before cells at w fits (b + 148) masterLimits (omega arith),
+      )
+
+  pub unit-past : (b : ℕ) → at + length w ≤ b → unitInRange (splice cells at w) b ≡ unitInRange cells b
+  unfolding unitInRange
+  unit-past b h =
+      rw (
+        within-past cells at w fits b unitLimits (omega arith),
+        within-past cells at w fits (b + 4) transmitterLimits (omega arith),
+        within-past cells at w fits (b + 76) receiverLimits (omega arith),
+        within-past cells at w fits (b + 148) masterLimits (omega arith),
+      )
+
+  -- the units before it
+  pub units-before : (n : ℕ) → unitPlace n ≤ at → unitsInRange n (splice cells at w) ≡ unitsInRange n cells
+  unfolding unitsInRange
+  units-before zero h = refl
+  units-before (suc n) h = rw (units-before n (omega arith), unit-before (unitPlace n) (omega arith))
+
+-- ---- a part at o of the block of a fitted unit u replaced
+
+module _ (cells : List ℕ) (ok : inRange cells ≡ true) (u : ℕ) (fitted : u < countIn cells) (o : ℕ) (w : List ℕ) (part : o + length w ≤ 214) where
+  fits : unitPlace u + o + length w ≤ length cells
+  fits = let r = in-range-says cells ok .room in omega arith
+
+  pub count-kept : countIn (splice cells (unitPlace u + o) w) ≡ countIn cells
+  count-kept = cell-before cells (unitPlace u + o) w fits 0 (omega arith)
+
+  pub holder-kept : holderIn (splice cells (unitPlace u + o) w) ≡ holderIn cells
+  holder-kept = cell-before cells (unitPlace u + o) w fits 1 (omega arith)
+
+  -- a cell of another unit
+  pub other-cell : (k j : ℕ) → (k ≡ u → ⊥) → j < 214 → cell (splice cells (unitPlace u + o) w) (unitPlace k + j) ≡ cell cells (unitPlace k + j)
+  other-cell k j apart h =
+      by (ltb k u) (λ less. cell-before cells (unitPlace u + o) w fits (unitPlace k + j) (omega (arith, ltb-true k u less)))
+      (λ more. cell-past cells (unitPlace u + o) w fits (unitPlace k + j) (omega (arith, ltb-false k u more)))
+
+  -- a window of another unit
+  pub other-window : (k p n : ℕ) → (k ≡ u → ⊥) → k < countIn cells → p + n ≤ 214
+      → window (splice cells (unitPlace u + o) w) (unitPlace k + p) n ≡ window cells (unitPlace k + p) n
+  other-window k p n apart there h =
+      let r = in-range-says cells ok .room in
+      by (ltb k u) (λ less. window-before cells (unitPlace u + o) w (unitPlace k + p) n (omega (arith, ltb-true k u less)) (omega arith))
+      (λ more. window-after cells (unitPlace u + o) w (unitPlace k + p) (omega (arith, ltb-false k u more)) (omega arith) n)
+
+  -- another unit
+  other-unit : (k : ℕ) → (k ≡ u → ⊥) → unitInRange (splice cells (unitPlace u + o) w) (unitPlace k) ≡ unitInRange cells (unitPlace k)
+  other-unit k apart =
+      by (ltb k u) (λ less. unit-before cells (unitPlace u + o) w fits (unitPlace k) (omega (arith, ltb-true k u less)))
+      (λ more. unit-past cells (unitPlace u + o) w fits (unitPlace k) (omega (arith, ltb-false k u more)))
+
+  -- where the unit itself is in range again, so is the state
+  pub again : UnitInRange (splice cells (unitPlace u + o) w) (unitPlace u) → inRange (splice cells (unitPlace u + o) w) ≡ true
+  again own =
+      let s = splice cells (unitPlace u + o) w in
+      let r = in-range-says cells ok in
+      let l : length s ≡ length cells = length-splice cells (unitPlace u + o) w fits in
+      in-range-is s
+      (record {
+        header = rw l (r .header);
+        most = rw count-kept (r .most);
+        room = rw (count-kept, l) (r .room);
+        holder = rw (count-kept, holder-kept) (r .holder);
+        units = λ k below.
+            let there : k < countIn cells = rw count-kept at below in
+            by (eqb k u) (λ same. rw (eqb-true k u same) (unit-is s (unitPlace u) own)) (λ apart. other-unit k (eqb-false k u apart) ∙ r .units k there);
+      })
+
+  -- ---- and where the part is no cell of the unit's own, every unit's own cells stay
+
+  module _ (side : 4 ≤ o) where
+    own-kept : (k j : ℕ) → j < 4 → cell (splice cells (unitPlace u + o) w) (unitPlace k + j) ≡ cell cells (unitPlace k + j)
+    own-kept k j h =
+        by (eqb k u)
+        (λ same. let e = eqb-true k u same in cell-before cells (unitPlace u + o) w fits (unitPlace k + j) (omega arith))
+        (λ apart. other-cell k j (eqb-false k u apart) (omega arith))
+
+    pub transmitter-address-kept : (k : ℕ) → transmitterAddress (splice cells (unitPlace u + o) w) k ≡ transmitterAddress cells k
+    transmitter-address-kept k = ap (λ (n : ℕ). n + 1) (own-kept k 0 (omega arith))
+
+    pub receiver-address-kept : (k : ℕ) → receiverAddress (splice cells (unitPlace u + o) w) k ≡ receiverAddress cells k
+    receiver-address-kept k = ap (λ (n : ℕ). n + 1) (own-kept k 1 (omega arith))
+
+    pub memory-length-kept : (k : ℕ) → memoryLength (splice cells (unitPlace u + o) w) k ≡ memoryLength cells k
+    memory-length-kept k = omega (arith, own-kept k 2 (omega arith), own-kept k 3 (omega arith))
+
+    -- so a unit is found where it was
+    pub transmitter-found-kept : (n a : ℕ) → firstTransmitter (splice cells (unitPlace u + o) w) n a ≡ firstTransmitter cells n a
+    transmitter-found-kept n a =
+        first-agrees (transmitterAddress (splice cells (unitPlace u + o) w)) (transmitterAddress cells) a n 0 (λ k from below. transmitter-address-kept k)
+
+    pub receiver-found-kept : (n a : ℕ) → firstReceiver (splice cells (unitPlace u + o) w) n a ≡ firstReceiver cells n a
+    receiver-found-kept n a =
+        first-agrees (receiverAddress (splice cells (unitPlace u + o) w)) (receiverAddress cells) a n 0 (λ k from below. receiver-address-kept k)

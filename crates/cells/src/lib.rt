@@ -1,0 +1,5 @@
+// Where the units lie in the lent cells, the ranges of each cell, and the search for a unit by its address.
+pub mod layout;
+pub mod ranges;
+pub mod search;
+pub mod units;

@@ -1,0 +1,97 @@
+// The header, and the cells of a unit's own.
+use crate::layout::BLOCK;
+use crate::layout::HEADER;
+use codec::windows::put;
+ghost use mathlib.Core.List.{[], _∷_};
+ghost use mathlib.Core.Path.{_≡_};
+ghost use Prim.Native.Nat.{_+_, _≤_, _<_};
+ghost use lib.ListN.{length};
+ghost use Rattle.codec.specs.Window.{cell, splice};
+ghost use Rattle.cells.specs.Layout.{countIn, holderIn, unitPlace, addressIn, transmitterAddress, receiverAddress, memoryLength, encUnit};
+
+// A cell as a wide number, for sums.
+fn cell_at(cells: &[u16], i: usize) -> usize
+    requires { ⌜ i < length (now cells) ⌝ }
+    ensures { λ r. ⌜ (r ≡ cell (now (cells .entry)) i) × (r < 65536) ⌝ }
+{
+    cells[i] as usize
+}
+
+// The count of units.
+pub fn count(cells: &[u16]) -> usize
+    requires { ⌜ 2 ≤ length (now cells) ⌝ }
+    ensures { λ r. ⌜ r ≡ countIn (now (cells .entry)) ⌝ }
+{
+    cell_at(cells, 0)
+}
+
+// Who is master: 0 nobody, else the unit's number + 1.
+pub fn holder(cells: &[u16]) -> u16
+    requires { ⌜ 2 ≤ length (now cells) ⌝ }
+    ensures { λ r. ⌜ r ≡ holderIn (now (cells .entry)) ⌝ }
+{
+    cells[1]
+}
+
+pub fn set_holder(cells: &mut [u16], holder: u16)
+    requires { ⌜ 2 ≤ length (now cells) ⌝ }
+    ensures { λ _. ⌜ now (cells .exit) ≡ splice (now (cells .entry)) 1 (holder ∷ []) ⌝ }
+{
+    let w = [holder];
+    put(cells, 1, &w);
+}
+
+// The header of a fit: so many units, and no master.
+pub fn set_header(cells: &mut [u16], count: u16)
+    requires { ⌜ 2 ≤ length (now cells) ⌝ }
+    ensures { λ _. ⌜ now (cells .exit) ≡ splice (now (cells .entry)) 0 (count ∷ 0 ∷ []) ⌝ }
+{
+    let w = [count, 0];
+    put(cells, 0, &w);
+}
+
+// The address in a unit's own cell k.
+pub fn address_in(cells: &[u16], k: usize, u: usize) -> usize
+    requires { ⌜ (k < 4) × (u < 16) × (unitPlace (u + 1) ≤ length (now cells)) ⌝ }
+    ensures { λ r. ⌜ r ≡ addressIn (now (cells .entry)) k u ⌝ }
+{
+    cell_at(cells, HEADER + u * BLOCK + k) + 1
+}
+
+pub fn transmitter_address(cells: &[u16], u: usize) -> usize
+    requires { ⌜ (u < 16) × (unitPlace (u + 1) ≤ length (now cells)) ⌝ }
+    ensures { λ r. ⌜ r ≡ transmitterAddress (now (cells .entry)) u ⌝ }
+{
+    address_in(cells, 0, u)
+}
+
+pub fn receiver_address(cells: &[u16], u: usize) -> usize
+    requires { ⌜ (u < 16) × (unitPlace (u + 1) ≤ length (now cells)) ⌝ }
+    ensures { λ r. ⌜ r ≡ receiverAddress (now (cells .entry)) u ⌝ }
+{
+    address_in(cells, 1, u)
+}
+
+// In words.
+pub fn memory_length(cells: &[u16], u: usize) -> usize
+    requires { ⌜ (u < 16) × (unitPlace (u + 1) ≤ length (now cells)) ⌝ }
+    ensures { λ r. ⌜ r ≡ memoryLength (now (cells .entry)) u ⌝ }
+{
+    let at = HEADER + u * BLOCK;
+    cell_at(cells, at + 2) * 65536 + cell_at(cells, at + 3) + 1
+}
+
+// A unit's own cells into its block.
+pub fn store_unit(cells: &mut [u16], at: usize, transmitter: u16, receiver: u16, memory: u32)
+    requires { ⌜ (at + 4 ≤ length (now cells)) × (1 ≤ transmitter) × (1 ≤ receiver) × (1 ≤ memory) × (memory ≤ 131072) ⌝ }
+    ensures { λ _. ⌜ now (cells .exit) ≡ splice (now (cells .entry)) at (encUnit transmitter receiver memory) ⌝ }
+{
+    let last = memory - 1;
+    let w = [
+        transmitter - 1,
+        receiver - 1,
+        (last / 65536) as u16,
+        (last % 65536) as u16,
+    ];
+    put(cells, at, &w);
+}

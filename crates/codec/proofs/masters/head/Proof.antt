@@ -1,0 +1,14 @@
+-- The section's word fits (`section-lt`).
+use native.Mathlib.Omega.{arith}
+use Rattle.codec.specs.MasterLaws.{section-lt}
+use Rattle.codec.proofs.masters.head.Statement.{statement}
+use Rattle.codec.proofs.masters.head.Tie as tie
+
+section-sum-requires : tie.Need-section-sum-requires
+section-sum-requires c κs = omega (arith, section-lt (c .before .args .m) (c .before .pre))
+
+returns : tie.Need-returns
+returns c = simp (c .section-sum .ensures)
+
+pub head-spec : {M : Type 1} → statement M
+head-spec = tie.close (tie.spec section-sum-requires returns)

@@ -1,0 +1,15 @@
+-- At each return the tests that led there say which case of the rule holds.
+use borrow.Author.Needs.{needs}
+use mathlib.Core.Path.{refl}
+use Rattle.laws.specs.Pick.{past, here}
+use Rattle.master.proofs.registers.remove.Statement.{statement}
+use Rattle.master.proofs.registers.remove.Tie as tie
+
+returns : tie.Need-returns
+returns c = here _ (c .before .before .if1 .taken) (simp (c .take .ensures))
+
+returns-2 : tie.Need-returns-2
+returns-2 c = past _ (c .if1 .left) refl
+
+pub remove-spec : {M : Type 1} → statement M
+remove-spec = tie.close (tie.spec (λ c. search needs) returns returns-2)

@@ -1,0 +1,31 @@
+-- The record of a master section: the values it may take, and its initial state.
+-- Assumes nothing.
+use mathlib.Core.Bool.{true, false}
+use Prim.Native.Nat.{ℕ, _<_}
+use Rattle.silos.specs.Silo.{Sized, noWords}
+use Rattle.silos.specs.declared.Silo.{Silo}
+use Rattle.master.specs.declared.side.Master.{Master}
+
+-- the values each number may take: the address silo holds at most 50, addresses are 0 to 31
+pub record Within (m : Master) : Type 0 where
+  pub silo : Sized 50 (m .addresses)
+  pub place : m .place < 32
+  pub switch : m .switch < 32
+
+-- "Fit gives every side its initial state": the counter stands at the switch
+abbrev pub initial : ℕ → Master
+initial switch = record { addresses = noWords; autoAddress = true; secondary = false; nowMaster = false; place = switch; switch = switch }
+
+-- "TX INIT also clears MASTER, SEC, NOW MST, empties the address silo and sets AUT ADR. Reset does both sides."
+abbrev pub initialised : Master → Master
+initialised m = initial (m .switch)
+
+-- ---- with a part changed
+
+abbrev pub withAddresses : Master → Silo → Master
+withAddresses m addresses =
+    record { addresses = addresses; autoAddress = m .autoAddress; secondary = m .secondary; nowMaster = m .nowMaster; place = m .place; switch = m .switch }
+
+abbrev pub withPlace : Master → ℕ → Master
+withPlace m place =
+    record { addresses = m .addresses; autoAddress = m .autoAddress; secondary = m .secondary; nowMaster = m .nowMaster; place = place; switch = m .switch }

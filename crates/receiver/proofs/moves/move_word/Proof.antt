@@ -1,0 +1,63 @@
+-- The place is the one that the address names: inside the memory the word is stored there, and outside it there is none.
+use borrow.Author.Needs.{needs}
+use mathlib.Core.Path.{refl, ap, sym, _∙_}
+use native.Mathlib.Omega.{arith}
+use Rattle.laws.specs.Pick.{past, here}
+use Rattle.words.specs.Address.{inside-lt}
+use Rattle.receiver.specs.Moves.{movedTo}
+use Rattle.receiver.proofs.moves.move_word.Statement.{statement}
+use Rattle.receiver.proofs.moves.move_word.Tie as tie
+
+returns : tie.Need-returns
+returns c = here _ (rw (c .before .may-move .ensures) at (c .if1 .taken)) refl
+
+returns-2 : tie.Need-returns-2
+returns-2 c =
+    let first = c .before .before .before in
+    past _ (rw (first .before .may-move .ensures) at (first .if1 .left)) (here _ (c .before .if2 .taken) (simp (c .exceed .ensures)))
+
+returns-3 : tie.Need-returns-3
+returns-3 c =
+    let placed = c .before .before .before in
+    let first = placed .before .before .before in
+    let a = first .before .before .before .args in
+    past _ (rw (first .before .may-move .ensures) at (first .if1 .left))
+    (past _ (placed .before .if2 .left)
+    (simp (c .miss .ensures) (ap (movedTo (a .r) (a .memory .now)) (sym (c .before .enum-told .given .1) ∙ placed .find-place .ensures))))
+
+-- the word is in the memory
+store-word-requires : tie.Need-store-word-requires
+store-word-requires c κs =
+    let placed = c .before .before .before .before in
+    let a = placed .before .before .before .before .before .before .args in
+    let at = c .before .before .at .given in
+    let inside = inside-lt (a .r .load .address .0) (a .length) (at .0 .0) (sym (placed .find-place .ensures) ∙ at .1) in
+    (search needs, omega arith)
+
+returns-4 : tie.Need-returns-4
+returns-4 c =
+    let stored = c .before .before in
+    let placed = stored .before .before .before .before .before in
+    let first = placed .before .before .before in
+    let a = first .before .before .before .args in
+    past _ (rw (first .before .may-move .ensures) at (first .if1 .left))
+    (past _ (placed .before .if2 .left)
+    (stored .store-word .ensures
+    ∙ ap (movedTo (a .r) (a .memory .now)) (sym (stored .before .before .before .at .given .1) ∙ placed .find-place .ensures)))
+
+pub move-word-spec : {M : Type 1} → statement M
+move-word-spec =
+    tie.close
+    (tie.spec
+    (λ c. search needs)
+    returns
+    (λ c. search needs)
+    returns-2
+    (λ c. search needs)
+    (λ c. search needs)
+    (λ c. search needs)
+    (λ c. search needs)
+    returns-3
+    store-word-requires
+    (λ c. search needs)
+    returns-4)

@@ -1,0 +1,127 @@
+// Memory moves: a word of the silo into the host memory.
+use crate::requests::fail;
+use crate::side::Receiver;
+use crate::side::has_error;
+use crate::side::is_data_out_ready;
+use words::address::Place;
+use words::answers::Move;
+use words::load::Advance;
+ghost use mathlib.Core.Path.{_≡_};
+ghost use mathlib.Core.List.{List};
+ghost use Prim.Native.Nat.{ℕ, _≤_, _<_};
+ghost use lib.ListN.{length, set};
+ghost use Rattle.words.specs.Address.{placeOf};
+ghost use Rattle.receiver.specs.Moves.{mayMove, exceeded, nonexistent, overflowed, advanced, wordPassed, wordStored, moved};
+ghost use Rattle.receiver.specs.Side.{Within};
+
+pub struct Moved {
+    pub side: Receiver,
+    pub answer: Move,
+}
+
+// Whether there is something to move.
+fn may_move(r: Receiver) -> bool
+    ensures { λ x. ⌜ x ≡ mayMove r ⌝ }
+{
+    r.modes.memoryRequests & is_data_out_ready(r) & !has_error(r)
+}
+
+// BC OFL.
+fn exceed(r: Receiver) -> Receiver
+    ensures { λ x. ⌜ x ≡ exceeded r ⌝ }
+{
+    let mut faults = r.faults;
+    faults.byteCountOverflow = true;
+    fail(r, faults)
+}
+
+// NXL.
+fn miss(r: Receiver) -> Receiver
+    ensures { λ x. ⌜ x ≡ nonexistent r ⌝ }
+{
+    let mut faults = r.faults;
+    faults.nonexistentLocation = true;
+    fail(r, faults)
+}
+
+// Memory overflow.
+fn overflow(r: Receiver) -> Receiver
+    ensures { λ x. ⌜ x ≡ overflowed r ⌝ }
+{
+    let mut faults = r.faults;
+    faults.memoryOverflow = true;
+    fail(r, faults)
+}
+
+// The word has left the silo, and the count and the address have gone on. Count 0 leaves RC NPR set.
+fn remove_word(r: Receiver, advance: Advance) -> Receiver
+    ensures { λ x. ⌜ x ≡ advanced r advance ⌝ }
+{
+    let silo = r.silo;
+    let load = advance.load;
+    let mut next = r;
+    next.silo = silo.take();
+    next.load = load;
+    if advance.overflow {
+        return overflow(next);
+    }
+    next
+}
+
+fn pass_word(r: Receiver) -> Receiver
+    requires { ⌜ Within r ⌝ }
+    ensures { λ x. ⌜ x ≡ wordPassed r ⌝ }
+{
+    let load = r.load;
+    remove_word(r, load.word_moved(r.modes.inhibitIncrement))
+}
+
+// The word is stored at an index of the memory.
+fn store_word(r: Receiver, memory: &mut [u16], at: usize) -> Moved
+    requires { ⌜ Within r ⌝ }
+    requires { ⌜ at < length (now memory) ⌝ }
+    ensures { λ m. ⌜ _≡_ {A = Moved × List ℕ} (m, now (memory .exit)) (wordStored r (now (memory .entry)) at) ⌝ }
+{
+    let silo = r.silo;
+    memory[at] = silo.oldest();
+    Moved {
+        side: pass_word(r),
+        answer: Move::Done,
+    }
+}
+
+// The word of a memory of so many words that the load's address names.
+fn find_place(r: Receiver, memory: usize) -> Place
+    ensures { λ x. ⌜ x ≡ placeOf (r .load .address .0) memory ⌝ }
+{
+    let load = r.load;
+    let address = load.address;
+    address.place(memory)
+}
+
+// A memory of `length` words, which may be lent with more behind it.
+pub fn move_word(r: Receiver, memory: &mut [u16], length: usize) -> Moved
+    requires { ⌜ Within r ⌝ }
+    requires { ⌜ length ≤ lib.ListN.length (now memory) ⌝ }
+    ensures { λ m. ⌜ _≡_ {A = Moved × List ℕ} (m, now (memory .exit)) (moved r (now (memory .entry)) length) ⌝ }
+{
+    if !may_move(r) {
+        return Moved {
+            side: r,
+            answer: Move::Nothing,
+        };
+    }
+    if !r.load.loaded {
+        return Moved {
+            side: exceed(r),
+            answer: Move::Done,
+        };
+    }
+    let Place::Inside(at) = find_place(r, length) else {
+        return Moved {
+            side: miss(r),
+            answer: Move::Done,
+        };
+    };
+    store_word(r, memory, at)
+}

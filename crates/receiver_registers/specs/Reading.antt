@@ -1,0 +1,33 @@
+-- Document 01, Registers: what a read of a receiver's register answers, and what it removes.
+-- Assumes nothing.
+use Prim.Native.Nat.{ℕ}
+use lib.Dec.{eqb}
+use Rattle.laws.specs.Pick.{pick}
+use Rattle.silos.specs.Silo.{isEmpty, oldest, taken}
+use Rattle.words.specs.Address.{lowOf}
+use Rattle.words.specs.declared.answers.Read.{Read}
+use Rattle.receiver_registers.specs.Shown.{controlWord, statusWord}
+use Rattle.receiver.specs.Side.{withSilo}
+use Rattle.receiver_registers.specs.declared.registers.Reading.{Reading}
+use Rattle.receiver.specs.declared.side.Receiver.{Receiver}
+
+-- "RDDB alike, removing it unless RC NPR is set"; "Data silo empty: 4"
+abbrev pub dataRead : Receiver → Reading
+dataRead r =
+    pick (isEmpty (r .silo)) (record { side = r; answer = Read.Nothing })
+    (pick (r .modes .memoryRequests) (record { side = r; answer = Read.Word (oldest (r .silo)) })
+    (record { side = withSilo r (taken (r .silo)); answer = Read.Word (oldest (r .silo)) }))
+
+-- "RCR 16, RSR 18, .. RDBC 22, RDBA 24, RDCRC 26"; any other number, an odd one too, is no register
+abbrev pub showOf : Receiver → ℕ → Read
+showOf r offset =
+    pick (eqb offset 16) (Read.Word (controlWord r))
+    (pick (eqb offset 18) (Read.Word (statusWord r))
+    (pick (eqb offset 22) (Read.Word (r .load .count .0))
+    (pick (eqb offset 24) (Read.Word (lowOf (r .load .address .0)))
+    (pick (eqb offset 26) (Read.Word (r .channel .crc))
+    Read.NoRegister))))
+
+-- "RDDB 20"
+abbrev pub readOf : Receiver → ℕ → Reading
+readOf r offset = pick (eqb offset 20) (dataRead r) (record { side = r; answer = showOf r offset })

@@ -1,0 +1,6 @@
+pub mod Chart
+pub mod Choice
+pub mod Events
+pub mod Hearing
+pub mod Keeps
+pub mod Talking

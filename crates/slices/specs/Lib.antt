@@ -1,0 +1,3 @@
+pub mod InStep
+pub mod Keeps
+pub mod Slice

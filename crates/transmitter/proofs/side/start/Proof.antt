@@ -1,0 +1,12 @@
+-- At each return the tests that led there say which case of the rule holds.
+use borrow.Author.Needs.{needs}
+use mathlib.Core.Path.{refl}
+use Rattle.laws.specs.Pick.{past, here}
+use Rattle.transmitter.proofs.side.start.Statement.{statement}
+use Rattle.transmitter.proofs.side.start.Tie as tie
+
+returns : tie.Need-returns
+returns c = simp (c .none2 .ensures, c .before .none .ensures, c .before .before .empty .ensures)
+
+pub start-spec : {M : Type 1} → statement M
+start-spec = tie.close (tie.spec (λ c. search needs) (λ c. search needs) (λ c. search needs) returns)

@@ -1,0 +1,5 @@
+pub mod Keeps
+pub mod Moves
+pub mod Periods
+pub mod Requests
+pub mod Side

@@ -1,0 +1,90 @@
+-- Document 01, Memory moves and periods: the transmitter's moves.
+-- Assumes nothing.
+use mathlib.Core.Bool.{Bool, true, not, _&&_}
+use mathlib.Core.List.{List}
+use Prim.Native.Nat.{ℕ}
+use lib.ListN.{getD}
+use Rattle.laws.specs.Pick.{pick}
+use Rattle.silos.specs.Silo.{hasRoom, put}
+use Rattle.words.specs.Address.{placeOf}
+use Rattle.words.specs.Load.{wordMoved}
+use Rattle.words.specs.declared.address.Place.{Place}
+use Rattle.words.specs.declared.answers.Move.{Move}
+use Rattle.words.specs.declared.load.Advance.{Advance}
+use Rattle.transmitter.specs.Requests.{failed}
+use Rattle.transmitter.specs.Side.{hasError, withSilo, withLoad, withModes}
+use Rattle.transmitter.specs.declared.moves.Moved.{Moved}
+use Rattle.transmitter.specs.declared.side.Faults.{Faults}
+use Rattle.transmitter.specs.declared.side.Modes.{Modes}
+use Rattle.transmitter.specs.declared.side.Transmitter.{Transmitter}
+
+-- "Transmitter: TX NPR, loaded, no ERR, room, RD SILO clear, not ending; else 4."
+abbrev pub mayMove : Transmitter → Bool
+mayMove t =
+    t .modes .memoryRequests && t .load .loaded && not (hasError t) && hasRoom 64 (t .silo) && not (t .modes .readSilo)
+    && not (t .channel .ending)
+
+-- "Address outside the memory: NXL."
+abbrev pub missing : Faults → Faults
+missing f =
+    record {
+      overrun = f .overrun;
+      timeOut = f .timeOut;
+      masterDown = f .masterDown;
+      transmissionError = f .transmissionError;
+      memoryOverflow = f .memoryOverflow;
+      nonexistentLocation = true;
+    }
+
+abbrev pub nonexistent : Transmitter → Transmitter
+nonexistent t = failed t (missing (t .faults))
+
+-- "An address wrapping past 777776 (octal) sets memory overflow."
+abbrev pub overflowing : Faults → Faults
+overflowing f =
+    record {
+      overrun = f .overrun;
+      timeOut = f .timeOut;
+      masterDown = f .masterDown;
+      transmissionError = f .transmissionError;
+      memoryOverflow = true;
+      nonexistentLocation = f .nonexistentLocation;
+    }
+
+abbrev pub overflowed : Transmitter → Transmitter
+overflowed t = failed t (overflowing (t .faults))
+
+-- "Count 0 clears TX NPR."
+abbrev requesting : Modes → Bool → Modes
+requesting m left =
+    record {
+      inhibitIncrement = m .inhibitIncrement;
+      interruptEnable = m .interruptEnable;
+      readSilo = m .readSilo;
+      memoryRequests = left;
+      retryIfBusy = m .retryIfBusy;
+      destination = m .destination;
+    }
+
+-- "Else the word is loaded, 2 added to count and, unless INH ADI, to the address."
+abbrev pub gone : Transmitter → ℕ → Advance → Transmitter
+gone t word a = withModes (withLoad (withSilo t (put 64 (t .silo) word)) (a .load)) (requesting (t .modes) (a .load .loaded))
+
+abbrev pub advanced : Transmitter → ℕ → Advance → Transmitter
+advanced t word a = pick (a .overflow) (overflowed (gone t word a)) (gone t word a)
+
+abbrev pub wordLoaded : Transmitter → ℕ → Transmitter
+wordLoaded t word = advanced t word (wordMoved (t .load) (t .modes .inhibitIncrement))
+
+-- the word at the load's address, in a memory of so many words
+abbrev pub movedFrom : Transmitter → List ℕ → Place → Transmitter
+movedFrom t memory (Place.Inside at) = wordLoaded t (getD memory at 0)
+movedFrom t memory Place.Outside = nonexistent t
+
+abbrev pub doneWith : Transmitter → Moved
+doneWith t = record { side = t; answer = Move.Done }
+
+abbrev pub moved : Transmitter → List ℕ → ℕ → Moved
+moved t memory length =
+    pick (not (mayMove t)) (record { side = t; answer = Move.Nothing })
+    (doneWith (movedFrom t memory (placeOf (t .load .address .0) length)))

@@ -1,0 +1,100 @@
+// Memory moves: a word of the host memory into the silo.
+use crate::requests::fail;
+use crate::side::Transmitter;
+use crate::side::has_error;
+use silos::WORDS;
+use words::address::Place;
+use words::answers::Move;
+use words::load::Advance;
+ghost use mathlib.Core.Path.{_≡_};
+ghost use Prim.Native.Nat.{_≤_};
+ghost use lib.ListN.{length};
+ghost use Rattle.transmitter.specs.Moves.{mayMove, nonexistent, wordLoaded, overflowed, advanced, moved};
+ghost use Rattle.transmitter.specs.Side.{Within};
+
+pub struct Moved {
+    pub side: Transmitter,
+    pub answer: Move,
+}
+
+// Whether there is something to move, and room for it.
+fn may_move(t: Transmitter) -> bool
+    ensures { λ r. ⌜ r ≡ mayMove t ⌝ }
+{
+    let silo = t.silo;
+    let load = t.load;
+    t.modes.memoryRequests
+        & load.loaded
+        & !has_error(t)
+        & silo.has_room(WORDS)
+        & !t.modes.readSilo
+        & !t.channel.ending
+}
+
+// NXL.
+fn miss(t: Transmitter) -> Transmitter
+    ensures { λ r. ⌜ r ≡ nonexistent t ⌝ }
+{
+    let mut faults = t.faults;
+    faults.nonexistentLocation = true;
+    fail(t, faults)
+}
+
+// Memory overflow.
+fn overflow(t: Transmitter) -> Transmitter
+    ensures { λ r. ⌜ r ≡ overflowed t ⌝ }
+{
+    let mut faults = t.faults;
+    faults.memoryOverflow = true;
+    fail(t, faults)
+}
+
+// The word is loaded, and the count and the address have gone on. Count 0 clears TX NPR.
+fn take_word(t: Transmitter, word: u16, advance: Advance) -> Transmitter
+    ensures { λ r. ⌜ r ≡ advanced t word advance ⌝ }
+{
+    let silo = t.silo;
+    let load = advance.load;
+    let mut next = t;
+    next.silo = silo.put(WORDS, word);
+    next.load = load;
+    next.modes.memoryRequests = load.loaded;
+    if advance.overflow {
+        return overflow(next);
+    }
+    next
+}
+
+fn load_word(t: Transmitter, word: u16) -> Transmitter
+    requires { ⌜ Within t ⌝ }
+    ensures { λ r. ⌜ r ≡ wordLoaded t word ⌝ }
+{
+    let load = t.load;
+    take_word(t, word, load.word_moved(t.modes.inhibitIncrement))
+}
+
+// A memory of `length` words, which may be lent with more behind it.
+pub fn move_word(t: Transmitter, memory: &[u16], length: usize) -> Moved
+    requires { ⌜ Within t ⌝ }
+    requires { ⌜ length ≤ lib.ListN.length (now memory) ⌝ }
+    ensures { λ r. ⌜ r ≡ moved t (now (memory .entry)) length ⌝ }
+{
+    if !may_move(t) {
+        return Moved {
+            side: t,
+            answer: Move::Nothing,
+        };
+    }
+    let load = t.load;
+    let address = load.address;
+    let Place::Inside(at) = address.place(length) else {
+        return Moved {
+            side: miss(t),
+            answer: Move::Done,
+        };
+    };
+    Moved {
+        side: load_word(t, memory[at]),
+        answer: Move::Done,
+    }
+}

@@ -1,0 +1,46 @@
+// Requests, and the interrupt level.
+use crate::side::Faults;
+use crate::side::Transmitter;
+use crate::side::has_error;
+use crate::side::is_busy;
+ghost use mathlib.Core.Path.{_≡_};
+ghost use Rattle.transmitter.specs.Requests.{requested, settled, failed, levelOf};
+
+// A request clears ST TXM and SND WD.
+pub fn request(t: Transmitter) -> Transmitter
+    ensures { λ r. ⌜ r ≡ requested t ⌝ }
+{
+    let mut next = t;
+    next.commands.startTransmission = false;
+    next.commands.sendWord = false;
+    next
+}
+
+// The end of every call that may leave the transmitter not BUSY, which clears the period's mark at once.
+pub fn settle(t: Transmitter) -> Transmitter
+    ensures { λ r. ⌜ r ≡ settled t ⌝ }
+{
+    let mark = t.mark & is_busy(t);
+    let mut next = t;
+    next.mark = mark;
+    next
+}
+
+// An event that sets an error bit.
+pub fn fail(t: Transmitter, faults: Faults) -> Transmitter
+    ensures { λ r. ⌜ r ≡ failed t faults ⌝ }
+{
+    let mut next = t;
+    next.faults = faults;
+    settle(request(next))
+}
+
+pub fn level(t: Transmitter) -> bool
+    ensures { λ r. ⌜ r ≡ levelOf t ⌝ }
+{
+    let standing = has_error(t)
+        | t.outcome.success
+        | t.outcome.softwareReject
+        | (t.outcome.busBusy & !t.modes.retryIfBusy);
+    t.modes.interruptEnable & standing
+}

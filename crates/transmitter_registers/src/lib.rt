@@ -1,0 +1,3 @@
+// The host's reads and writes of a transmitter's registers.
+pub mod registers;
+pub mod shown;
