@@ -1,0 +1,4 @@
+pub mod Fitted
+pub mod Masters
+pub mod Reading
+pub mod Writing

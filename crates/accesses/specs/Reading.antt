@@ -1,0 +1,42 @@
+-- Document 01, Registers: a word read at one unit. Offsets below 16 are the transmitter's, but for TMMR, 10; the others the receiver's.
+-- Assumes nothing.
+use mathlib.Core.List.{List}
+use Prim.Native.Nat.{ℕ}
+use lib.Dec.{eqb, ltb}
+use Rattle.cells.specs.Layout.{holderIn}
+use Rattle.laws.specs.Pick.{pick}
+use Rattle.master.specs.Reading as M
+use Rattle.master.specs.declared.registers.Reading as MD
+use Rattle.receiver_registers.specs.Reading as R
+use Rattle.receiver_registers.specs.declared.registers.Reading as RD
+use Rattle.transmitter_registers.specs.Reading as T
+use Rattle.transmitter_registers.specs.declared.registers.Reading as TD
+use Rattle.words.specs.declared.answers.Read.{Read}
+use Rattle.accesses.specs.Fitted.{transmitterOf, receiverOf, masterOf, putTransmitter, putReceiver, putMaster}
+use Rattle.accesses.specs.Masters.{mastershipOf}
+
+-- the answer, and the cells with the side put back
+abbrev pub afterTransmitter : List ℕ → ℕ → TD.Reading → Read × List ℕ
+afterTransmitter cells unit r = (r .answer, putTransmitter cells unit (r .side))
+
+abbrev pub transmitterRead : List ℕ → ℕ → ℕ → Read × List ℕ
+transmitterRead cells unit offset = afterTransmitter cells unit (T.readOf (transmitterOf cells unit) offset)
+
+abbrev pub afterReceiver : List ℕ → ℕ → RD.Reading → Read × List ℕ
+afterReceiver cells unit r = (r .answer, putReceiver cells unit (r .side))
+
+abbrev pub receiverRead : List ℕ → ℕ → ℕ → Read × List ℕ
+receiverRead cells unit offset = afterReceiver cells unit (R.readOf (receiverOf cells unit) offset)
+
+-- TMMR shows MASTER, and the transmitter's CHN OPN; its RD SILO decides whether an address is removed
+abbrev pub afterMaster : List ℕ → ℕ → MD.Reading → Read × List ℕ
+afterMaster cells unit r = (Read.Word (r .word), putMaster cells unit (r .side))
+
+abbrev pub masterRead : List ℕ → ℕ → Read × List ℕ
+masterRead cells unit =
+    afterMaster cells unit
+    (M.readOf (masterOf cells unit) (mastershipOf (holderIn cells) unit) (transmitterOf cells unit .channel .opened) (transmitterOf cells unit .modes .readSilo))
+
+abbrev pub unitRead : List ℕ → ℕ → ℕ → Read × List ℕ
+unitRead cells unit offset =
+    pick (eqb offset 10) (masterRead cells unit) (pick (ltb offset 16) (transmitterRead cells unit offset) (receiverRead cells unit offset))

@@ -1,0 +1,91 @@
+-- Document 01, Registers: a word or a byte written at one unit, and its reset.
+-- Assumes nothing.
+use mathlib.Core.Bool.{_&&_}
+use mathlib.Core.List.{List}
+use Prim.Native.Nat.{ℕ}
+use lib.Dec.{eqb, ltb}
+use lib.ListN.{set}
+use Rattle.cells.specs.Layout.{holderIn}
+use Rattle.laws.specs.Pick.{pick}
+use Rattle.master.specs.Side as MS
+use Rattle.master.specs.Writing as M
+use Rattle.master.specs.declared.registers.Written as MD
+use Rattle.receiver.specs.Side as RS
+use Rattle.receiver_registers.specs.Writing as R
+use Rattle.receiver_registers.specs.declared.registers.Written as RD
+use Rattle.transmitter.specs.Side as TS
+use Rattle.transmitter_registers.specs.Writing as T
+use Rattle.transmitter_registers.specs.declared.registers.Written as TD
+use Rattle.words.specs.declared.answers.Write.{Write}
+use Rattle.accesses.specs.Fitted.{transmitterOf, receiverOf, masterOf, putTransmitter, putReceiver, putMaster}
+use Rattle.accesses.specs.Masters.{mastershipOf, holderAfter, released}
+
+-- ---- TX INIT and reset
+
+-- "TX INIT .. gives that side its initial state"; it "also clears MASTER, SEC, NOW MST, empties the address silo and sets AUT ADR"
+abbrev pub transmitterReset : List ℕ → ℕ → List ℕ
+transmitterReset cells unit =
+    set (putMaster (putTransmitter cells unit TS.initial) unit (MS.initialised (masterOf cells unit))) 1 (released (holderIn cells) unit)
+
+-- "Reset does both sides."
+abbrev pub unitReset : List ℕ → ℕ → List ℕ
+unitReset cells unit = putReceiver (transmitterReset cells unit) unit RS.initial
+
+-- ---- the answer, and the cells with the side put back
+
+abbrev pub afterTransmitter : List ℕ → ℕ → TD.Written → Write × List ℕ
+afterTransmitter cells unit w = (w .answer, putTransmitter cells unit (w .side))
+
+abbrev pub afterReceiver : List ℕ → ℕ → RD.Written → Write × List ℕ
+afterReceiver cells unit w = (w .answer, putReceiver cells unit (w .side))
+
+-- TMMR may change who has MASTER
+abbrev pub afterMaster : List ℕ → ℕ → MD.Written → Write × List ℕ
+afterMaster cells unit w = (w .answer, set (putMaster cells unit (w .side)) 1 (holderAfter (holderIn cells) unit (w .mastership)))
+
+-- ---- a word
+
+abbrev pub transmitterWritten : List ℕ → ℕ → ℕ → ℕ → Write × List ℕ
+transmitterWritten cells unit offset word = afterTransmitter cells unit (T.written (transmitterOf cells unit) offset word)
+
+abbrev pub receiverWritten : List ℕ → ℕ → ℕ → ℕ → Write × List ℕ
+receiverWritten cells unit offset word = afterReceiver cells unit (R.written (receiverOf cells unit) offset word)
+
+abbrev pub masterWritten : List ℕ → ℕ → ℕ → Write × List ℕ
+masterWritten cells unit word =
+    afterMaster cells unit
+    (M.wordWritten (masterOf cells unit) (mastershipOf (holderIn cells) unit) (transmitterOf cells unit .modes .readSilo) word)
+
+-- TX INIT in a write of TCR; TMMR is at 10; offsets below 16 are the transmitter's, the others the receiver's
+abbrev pub unitWritten : List ℕ → ℕ → ℕ → ℕ → Write × List ℕ
+unitWritten cells unit offset word =
+    pick (eqb offset 0 && T.initialises word) (Write.Done, transmitterReset cells unit)
+    (pick (eqb offset 10) (masterWritten cells unit word)
+    (pick (ltb offset 16) (transmitterWritten cells unit offset word)
+    (receiverWritten cells unit offset word)))
+
+-- ---- a byte
+
+abbrev pub transmitterByteWritten : List ℕ → ℕ → ℕ → ℕ → Write × List ℕ
+transmitterByteWritten cells unit offset byte = afterTransmitter cells unit (T.byteWritten (transmitterOf cells unit) offset byte)
+
+abbrev pub receiverByteWritten : List ℕ → ℕ → ℕ → ℕ → Write × List ℕ
+receiverByteWritten cells unit offset byte = afterReceiver cells unit (R.byteWritten (receiverOf cells unit) offset byte)
+
+-- TMMR's low byte is an address
+abbrev pub masterLowWritten : List ℕ → ℕ → ℕ → Write × List ℕ
+masterLowWritten cells unit byte =
+    afterMaster cells unit
+    (M.lowByteWritten (masterOf cells unit) (mastershipOf (holderIn cells) unit) (transmitterOf cells unit .modes .readSilo) byte)
+
+abbrev pub masterHighWritten : List ℕ → ℕ → ℕ → Write × List ℕ
+masterHighWritten cells unit byte =
+    afterMaster cells unit (M.highByteWritten (masterOf cells unit) (mastershipOf (holderIn cells) unit) byte)
+
+abbrev pub unitByteWritten : List ℕ → ℕ → ℕ → ℕ → Write × List ℕ
+unitByteWritten cells unit offset byte =
+    pick (eqb offset 0 && T.initialises byte) (Write.Done, transmitterReset cells unit)
+    (pick (eqb offset 10) (masterLowWritten cells unit byte)
+    (pick (eqb offset 11) (masterHighWritten cells unit byte)
+    (pick (ltb offset 16) (transmitterByteWritten cells unit offset byte)
+    (receiverByteWritten cells unit offset byte))))
