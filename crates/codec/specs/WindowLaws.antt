@@ -108,12 +108,12 @@ from-is zero i w h = refl
 from-is (suc n) i w h = rw (drop-cons w i 0 (omega arith)) (ap (λ (l : List ℕ). cell w i ∷ l) (from-is n (suc i) w (omega arith)))
 
 -- two lists put one after the other into as many zeros
-pub laid : (n : ℕ) (a b : List ℕ) → length a + length b ≡ n → splice (splice (replicate n 0) 0 a) (length a) b ≡ a ++ b
-laid n a b fits =
+pub laid : (n k : ℕ) (a b : List ℕ) → length a ≡ k → k + length b ≡ n → splice (splice (replicate n 0) 0 a) k b ≡ a ++ b
+laid n k a b long fits =
     let z = drop (length a) (replicate {A = ℕ} n 0) in
     let e : drop (length a + length b) (a ++ z) ≡ [] =
     drop-of-length-le (a ++ z) {i = length a + length b} (simp (length-append, length-drop, length-replicate) (omega arith)) in
-    rw (zero-add (length a), take-append-seam a z, e, append-nil (a ++ b))
+    rw (← long, zero-add (length a), take-append-seam a z, e, append-nil (a ++ b))
 
 -- ---- cell by cell
 

@@ -1,10 +1,12 @@
 // What the windows of a transmitter and of a receiver have in common.
+use crate::windows::put;
 use crate::windows::take;
 use silos::Silo;
 use words::address::Address;
 use words::codes::Codes;
 use words::count::ByteCount;
 use words::load::Load;
+ghost use mathlib.Core.List.{_++_};
 ghost use mathlib.Core.Path.{_≡_};
 ghost use Prim.Native.Nat.{_<_};
 ghost use Rattle.codec.specs.Ends.{commandBits, statusBits, siloIn, loadOf, codesOf};
@@ -75,6 +77,16 @@ pub fn status_bits(
         + b13 as u16 * 8192
         + b14 as u16 * 16384
         + b15 as u16 * 32768
+}
+
+// The cells before the silo's, and the silo's.
+pub fn join(head: [u16; 8], cells: [u16; 64]) -> [u16; SIDE]
+    ensures { λ r. ⌜ r ≡ head ++ cells ⌝ }
+{
+    let mut w = [0u16; SIDE];
+    put(&mut w, 0, &head);
+    put(&mut w, 8, &cells);
+    w
 }
 
 pub fn silo_in(w: [u16; SIDE]) -> Silo

@@ -2,6 +2,7 @@
 use crate::ends::SIDE;
 use crate::ends::codes_of;
 use crate::ends::command_bits;
+use crate::ends::join;
 use crate::ends::load_of;
 use crate::ends::silo_in;
 use crate::ends::status_bits;
@@ -92,13 +93,9 @@ pub fn encode(r: Receiver) -> [u16; SIDE]
     requires { ⌜ Within r ⌝ }
     ensures { λ x. ⌜ x ≡ encReceiver r ⌝ }
 {
-    let head = head(r);
     let silo = r.silo;
     let cells = silo.cells;
-    let mut w = [0u16; SIDE];
-    put(&mut w, 0, &head);
-    put(&mut w, 8, &cells);
-    w
+    join(head(r), cells)
 }
 
 fn commands_of(command: u16) -> Commands
@@ -162,17 +159,22 @@ fn channel_of(status: u16, truncated: u16, block: u16, crc: u16) -> Channel
 pub fn decode(w: [u16; SIDE]) -> Receiver
     ensures { λ x. ⌜ x ≡ decReceiver w ⌝ }
 {
+    let block = w[1];
+    let truncated = w[2];
+    let low = w[3];
+    let count = w[4];
     let command = w[5];
     let status = w[6];
+    let crc = w[7];
     Receiver {
         silo: silo_in(w),
-        load: load_of(w[3], w[4], command),
+        load: load_of(low, count, command),
         shown: codes_of(status),
         commands: commands_of(command),
         modes: modes_of(command),
         faults: faults_of(status),
         outcome: outcome_of(status),
-        channel: channel_of(status, w[2], w[1], w[7]),
+        channel: channel_of(status, truncated, block, crc),
         mark: command / 8 % 2 == 1,
     }
 }

@@ -1,5 +1,6 @@
 -- The two parts put into an array of zeros are the cells (`laid`).
 use borrow.Author.Needs.{needs}
+use mathlib.Core.Path.{refl}
 use native.Mathlib.Omega.{arith}
 use Rattle.codec.specs.Masters.{masterHead}
 use Rattle.codec.specs.WindowLaws.{laid}
@@ -11,7 +12,7 @@ returns c =
     let headed = c .before .before .before .before .before .before .before .before .before .before in
     let m = headed .before .args .m in
     simp (c .before .put2 .ensures, c .before .before .before .before .before .put .ensures, headed .head .ensures)
-    (laid 66 (masterHead m) (m .addresses .cells) (omega (arith, headed .before .pre .silo .cells64)))
+    (laid 66 2 (masterHead m) (m .addresses .cells) refl (omega (arith, headed .before .pre .silo .cells64)))
 
 pub encode-spec : {M : Type 1} → statement M
 encode-spec =
