@@ -1,0 +1,4 @@
+pub mod Calls
+pub mod Face
+pub mod Guards
+pub mod Numbers

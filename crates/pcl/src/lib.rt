@@ -1,0 +1,5 @@
+// The calls of document 01, for Rattle and for C. Each asks nothing of its caller: what is bad is refused by number, and leaves
+// every cell as it was.
+pub mod answers;
+pub mod calls;
+pub mod face;
