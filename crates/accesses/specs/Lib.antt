@@ -1,4 +1,3 @@
-pub mod Fitted
 pub mod Masters
 pub mod Reading
 pub mod Writing

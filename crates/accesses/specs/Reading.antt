@@ -12,7 +12,7 @@ use Rattle.receiver_registers.specs.declared.registers.Reading as RD
 use Rattle.transmitter_registers.specs.Reading as T
 use Rattle.transmitter_registers.specs.declared.registers.Reading as TD
 use Rattle.words.specs.declared.answers.Read.{Read}
-use Rattle.accesses.specs.Fitted.{transmitterOf, receiverOf, masterOf, putTransmitter, putReceiver, putMaster}
+use Rattle.cells.specs.Fitted.{transmitterOf, receiverOf, masterOf, putTransmitter, putReceiver, putMaster}
 use Rattle.accesses.specs.Masters.{mastershipOf}
 
 -- the answer, and the cells with the side put back

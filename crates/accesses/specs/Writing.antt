@@ -17,7 +17,7 @@ use Rattle.transmitter.specs.Side as TS
 use Rattle.transmitter_registers.specs.Writing as T
 use Rattle.transmitter_registers.specs.declared.registers.Written as TD
 use Rattle.words.specs.declared.answers.Write.{Write}
-use Rattle.accesses.specs.Fitted.{transmitterOf, receiverOf, masterOf, putTransmitter, putReceiver, putMaster}
+use Rattle.cells.specs.Fitted.{transmitterOf, receiverOf, masterOf, putTransmitter, putReceiver, putMaster}
 use Rattle.accesses.specs.Masters.{mastershipOf, holderAfter, released}
 
 -- ---- TX INIT and reset

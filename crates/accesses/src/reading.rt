@@ -15,7 +15,7 @@ use words::answers::Read;
 ghost use mathlib.Core.Path.{_≡_};
 ghost use mathlib.Core.List.{List};
 ghost use Prim.Native.Nat.{ℕ};
-ghost use Rattle.accesses.specs.Fitted.{Fitted};
+ghost use Rattle.cells.specs.Fitted.{Fitted};
 ghost use Rattle.accesses.specs.Reading.{transmitterRead, receiverRead, masterRead, unitRead};
 
 fn read_transmitter(cells: &mut [u16], unit: usize, offset: u32) -> Read

@@ -20,7 +20,7 @@ ghost use mathlib.Core.Path.{_≡_};
 ghost use mathlib.Core.List.{List};
 ghost use Prim.Native.Nat.{ℕ};
 ghost use Rattle.master.specs.Side.{Within};
-ghost use Rattle.accesses.specs.Fitted.{Fitted};
+ghost use Rattle.cells.specs.Fitted.{Fitted};
 ghost use Rattle.accesses.specs.Writing.{transmitterReset, unitReset, afterMaster, transmitterWritten, receiverWritten, masterWritten, unitWritten, transmitterByteWritten, receiverByteWritten, masterLowWritten, masterHighWritten, unitByteWritten};
 
 // ---- TX INIT and reset

@@ -8,7 +8,7 @@ use lib.Dec.{eqb}
 use Rattle.laws.specs.Pick.{pick}
 use Rattle.cells.specs.Search.{firstOf}
 
-pub turn : (addressOf : ℕ → ℕ) (a n i : ℕ) → i < n
-    → firstOf addressOf a (n - i) i ≡ pick (eqb (addressOf i) a) i (firstOf addressOf a (n - (i + 1)) (i + 1))
+pub turn : (numberOf : ℕ → ℕ) (a n i : ℕ) → i < n
+    → firstOf numberOf a (n - i) i ≡ pick (eqb (numberOf i) a) i (firstOf numberOf a (n - (i + 1)) (i + 1))
 unfolding firstOf
-turn addressOf a n i h = let e : n - i ≡ suc (n - (i + 1)) = omega arith in rw (e, add-one)
+turn numberOf a n i h = let e : n - i ≡ suc (n - (i + 1)) = omega arith in rw (e, add-one)

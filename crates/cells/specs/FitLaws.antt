@@ -17,15 +17,17 @@ use Rattle.codec.specs.TransmitterLaws.{length-transmitter, transmitter-within}
 use Rattle.codec.specs.Transmitters.{encTransmitter}
 use Rattle.codec.specs.Window.{cell, splice}
 use Rattle.codec.specs.WindowLaws.{length-splice, cell-inside}
+use Rattle.master.specs.Laws.{Counting}
 use Rattle.master.specs.Side as M
 use Rattle.master.specs.declared.side.Master.{Master}
 use Rattle.receiver.specs.Side as R
 use Rattle.receiver.specs.declared.side.Receiver.{Receiver}
 use Rattle.transmitter.specs.Side as T
 use Rattle.transmitter.specs.declared.side.Transmitter.{Transmitter}
+use Rattle.cells.specs.Fitted.{unitFitted}
 use Rattle.cells.specs.FrameLaws.{unit-past, units-before}
 use Rattle.cells.specs.Layout.{unitPlace, transmitterPlace, receiverPlace, masterPlace, transmitterAddress, receiverAddress, memoryLength, encUnit}
-use Rattle.cells.specs.RangeLaws.{both, in-range-is, unit-is, each-unit}
+use Rattle.cells.specs.RangeLaws.{both, counter-stored, in-range-is, unit-is, each-unit}
 use Rattle.cells.specs.Ranges.{unitsInRange, inRange}
 
 -- ---- a unit's own cells
@@ -55,16 +57,8 @@ module _ (transmitter receiver memory : ℕ) (t : 1 ≤ transmitter) (r : 1 ≤ 
 
 -- ---- one unit more
 
--- a unit's four groups stored, one after the other
-abbrev pub unitFitted : List ℕ → ℕ → List ℕ → Transmitter → Receiver → Master → List ℕ
-unitFitted cells u own t r m =
-    splice
-    (splice (splice (splice cells (unitPlace u) own) (transmitterPlace u) (encTransmitter t)) (receiverPlace u) (encReceiver r))
-    (masterPlace u)
-    (encMaster m)
-
 module _ (cells : List ℕ) (u : ℕ) (room : unitPlace u + 214 ≤ length cells) (own : List ℕ) (four : length own ≡ 4) (ok : within own 0 unitLimits ≡ true)
-    (t : Transmitter) (r : Receiver) (m : Master) (ht : T.Within t) (hr : R.Within r) (hm : M.Within m) where
+    (t : Transmitter) (r : Receiver) (m : Master) (ht : T.Within t) (hr : R.Within r) (hm : M.Within m) (counting : Counting m) where
   pub unit-fitted : unitsInRange u cells ≡ true → unitsInRange (suc u) (unitFitted cells u own t r m) ≡ true
   unfolding unitsInRange
   unit-fitted before =
@@ -111,6 +105,7 @@ module _ (cells : List ℕ) (u : ℕ) (room : unitPlace u + 214 ≤ length cells
             ∙ within-spliced s2 (b + 76) wr f3 receiverLimits (omega arith)
             ∙ receiver-within r hr;
         master = within-spliced s3 (b + 148) wm f4 masterLimits (omega arith) ∙ master-within m hm;
+        counter = rw (cell-inside s3 (b + 148) wm f4 1 (omega arith)) (counter-stored m hm counting);
       }))
 
 -- ---- the header of a fit

@@ -50,3 +50,11 @@ memoryLength cells u = ownCell cells 2 u * 2 ^ 16 + ownCell cells 3 u + 1
 -- the four cells of two addresses and a memory length
 abbrev pub encUnit : ℕ → ℕ → ℕ → List ℕ
 encUnit transmitter receiver memory = (transmitter - 1) ∷ (receiver - 1) ∷ (memory - 1) / 2 ^ 16 ∷ (memory - 1) % 2 ^ 16 ∷ []
+
+-- ---- its master section's word, and SEC of it, bit 11: 0 or 1
+
+abbrev pub sectionIn : List ℕ → ℕ → ℕ
+sectionIn cells u = cell cells (masterPlace u + 1)
+
+abbrev pub secondaryIn : List ℕ → ℕ → ℕ
+secondaryIn cells u = sectionIn cells u / 2 ^ 11 % 2

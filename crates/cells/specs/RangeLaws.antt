@@ -4,7 +4,7 @@ use mathlib.Core.Bool.{Bool, true, false, _&&_}
 use mathlib.Core.List.{List}
 use mathlib.Core.Logic.{⊎-elim}
 use mathlib.Core.Path.{_≡_, refl}
-use Prim.Native.Nat.{ℕ, zero, suc, _+_, _≤_, _<_}
+use Prim.Native.Nat.{ℕ, zero, suc, _+_, _/_, _%_, _^_, _≤_, _<_}
 use native.Mathlib.Nat.{le-of-suc-le-suc, not-suc-le-zero, eq-or-lt-of-le}
 use native.Mathlib.Omega.{arith}
 use borrow.Author.Tests.{leb-true, le-leb}
@@ -12,17 +12,25 @@ use lib.Dec.{leb}
 use lib.ListN.{length, replicate}
 use Rattle.codec.specs.LimitLaws.{left-of, right-of}
 use Rattle.codec.specs.Limits.{within, unitLimits, transmitterLimits, receiverLimits, masterLimits}
+use Rattle.codec.specs.MasterLaws.{dec-enc-master}
+use Rattle.codec.specs.Masters.{addressesIn, sectionOf, encMaster}
+use Rattle.codec.specs.Window.{cell}
+use Rattle.master.specs.Laws.{Counting}
+use Rattle.master.specs.Side.{Within}
+use Rattle.master.specs.declared.side.Master.{Master}
+use Rattle.silos.specs.declared.Silo.{Silo}
 use Rattle.cells.specs.Layout.{countIn, holderIn, unitPlace}
-use Rattle.cells.specs.Ranges.{unitInRange, unitsInRange, inRange}
+use Rattle.cells.specs.Ranges.{counterInRange, unitInRange, unitsInRange, inRange}
 
 -- ---- in range, part by part
 
--- the four groups of a unit
+-- the four groups of a unit, and its counter
 pub record UnitInRange (cells : List ℕ) (at : ℕ) : Type 0 where
   pub own : within cells at unitLimits ≡ true
   pub transmitter : within cells (at + 4) transmitterLimits ≡ true
   pub receiver : within cells (at + 76) receiverLimits ≡ true
   pub master : within cells (at + 148) masterLimits ≡ true
+  pub counter : counterInRange (cell cells (at + 148 + 1)) ≡ true
 
 -- the parts of a state
 pub record InRange (cells : List ℕ) : Type 0 where
@@ -39,6 +47,21 @@ and-false : (a : Bool) → a && false ≡ false
 and-false true = refl
 and-false false = refl
 
+-- the counter in range is the section's between 1 and its switch
+module _ (silo : Silo) (word : ℕ) where
+  pub counter-says : counterInRange word ≡ true → Counting (sectionOf silo word)
+  counter-says ok =
+      let a = leb 1 (word % 2 ^ 5) in
+      let b = leb (word % 2 ^ 5) (word / 2 ^ 5 % 2 ^ 5) in
+      record { least = leb-true _ _ (left-of a b ok); most = leb-true _ _ (right-of a b ok) }
+
+  pub counter-is : Counting (sectionOf silo word) → counterInRange word ≡ true
+  counter-is h = both (le-leb _ _ (h .least)) (le-leb _ _ (h .most))
+
+-- and is so in the cells of a section
+pub counter-stored : (m : Master) → Within m → Counting m → counterInRange (cell (encMaster m) 1) ≡ true
+counter-stored m h counting = counter-is (addressesIn (encMaster m)) (cell (encMaster m) 1) (rw (dec-enc-master m h) counting)
+
 module _ (cells : List ℕ) where
   pub unit-says : (at : ℕ) → unitInRange cells at ≡ true → UnitInRange cells at
   unfolding unitInRange
@@ -47,16 +70,21 @@ module _ (cells : List ℕ) where
       let b = within cells (at + 4) transmitterLimits in
       let c = within cells (at + 76) receiverLimits in
       let d = within cells (at + 148) masterLimits in
+      let e = counterInRange (cell cells (at + 148 + 1)) in
+      let abcd = left-of (a && b && c && d) e ok in
+      let abc = left-of (a && b && c) d abcd in
+      let ab = left-of (a && b) c abc in
       record {
-        own = left-of a b (left-of (a && b) c (left-of (a && b && c) d ok));
-        transmitter = right-of a b (left-of (a && b) c (left-of (a && b && c) d ok));
-        receiver = right-of (a && b) c (left-of (a && b && c) d ok);
-        master = right-of (a && b && c) d ok;
+        own = left-of a b ab;
+        transmitter = right-of a b ab;
+        receiver = right-of (a && b) c abc;
+        master = right-of (a && b && c) d abcd;
+        counter = right-of (a && b && c && d) e ok;
       }
 
   pub unit-is : (at : ℕ) → UnitInRange cells at → unitInRange cells at ≡ true
   unfolding unitInRange
-  unit-is at h = both (both (both (h .own) (h .transmitter)) (h .receiver)) (h .master)
+  unit-is at h = both (both (both (both (h .own) (h .transmitter)) (h .receiver)) (h .master)) (h .counter)
 
   pub each-unit : (n : ℕ) → unitsInRange n cells ≡ true → (u : ℕ) → u < n → unitInRange cells (unitPlace u) ≡ true
   unfolding unitsInRange

@@ -2,19 +2,25 @@
 -- Assumes nothing.
 use mathlib.Core.Bool.{Bool, true, _&&_}
 use mathlib.Core.List.{List}
-use Prim.Native.Nat.{ℕ, zero, suc, _+_}
+use Prim.Native.Nat.{ℕ, zero, suc, _+_, _/_, _%_, _^_}
 use lib.Dec.{leb}
 use lib.ListN.{length}
 use Rattle.codec.specs.Limits.{within, unitLimits, transmitterLimits, receiverLimits, masterLimits}
+use Rattle.codec.specs.Window.{cell}
 use Rattle.cells.specs.Layout.{countIn, holderIn, unitPlace}
 
--- each limited cell of the unit whose block is at a place is within its limit
+-- the counter that a master section's word holds stands between 1 and its switch
+abbrev pub counterInRange : ℕ → Bool
+counterInRange word = leb 1 (word % 2 ^ 5) && leb (word % 2 ^ 5) (word / 2 ^ 5 % 2 ^ 5)
+
+-- each limited cell of the unit whose block is at a place is within its limit, and its counter is in range
 unfoldable pub unitInRange : List ℕ → ℕ → Bool
 unitInRange cells at =
     within cells at unitLimits
     && within cells (at + 4) transmitterLimits
     && within cells (at + 76) receiverLimits
     && within cells (at + 148) masterLimits
+    && counterInRange (cell cells (at + 148 + 1))
 
 -- and so for the first n units
 unfoldable pub unitsInRange : ℕ → List ℕ → Bool

@@ -10,17 +10,19 @@ use lib.ListN.{length}
 use Rattle.codec.specs.LimitLaws.{each}
 use Rattle.codec.specs.Limits.{unitLimits, Words}
 use Rattle.codec.specs.MasterLaws.{master-loaded, master-kept}
-use Rattle.codec.specs.Masters.{encMaster, masterAt}
+use Rattle.codec.specs.Masters.{addressesIn, encMaster, masterAt}
 use Rattle.codec.specs.ReceiverLaws.{receiver-loaded, receiver-kept}
 use Rattle.codec.specs.Receivers.{encReceiver, receiverAt}
 use Rattle.codec.specs.TransmitterLaws.{transmitter-loaded, transmitter-kept}
 use Rattle.codec.specs.Transmitters.{encTransmitter, transmitterAt}
-use Rattle.codec.specs.Window.{splice}
+use Rattle.codec.specs.Window.{cell, window, splice}
+use Rattle.codec.specs.WindowLaws.{cell-window}
+use Rattle.master.specs.Laws.{Counting}
 use Rattle.master.specs.Side as M
 use Rattle.receiver.specs.Side as R
 use Rattle.transmitter.specs.Side as T
 use Rattle.cells.specs.Layout.{countIn, unitPlace, transmitterPlace, receiverPlace, masterPlace, transmitterAddress, receiverAddress, memoryLength}
-use Rattle.cells.specs.RangeLaws.{UnitInRange, in-range-says, unit-says}
+use Rattle.cells.specs.RangeLaws.{UnitInRange, in-range-says, counter-says, unit-says}
 use Rattle.cells.specs.Ranges.{inRange}
 
 module _ (cells : List ℕ) (ok : inRange cells ≡ true) (u : ℕ) (fitted : u < countIn cells) where
@@ -37,6 +39,12 @@ module _ (cells : List ℕ) (ok : inRange cells ≡ true) (u : ℕ) (fitted : u 
 
   pub receiver-address-most : receiverAddress cells u ≤ 31
   receiver-address-most = omega (arith, each cells (unitPlace u) unitLimits 3 (unit .own) 1 (lit< tt))
+
+  -- the counter of its master section is between 1 and its switch
+  pub counting-at : Counting (masterAt cells (masterPlace u))
+  counting-at =
+      counter-says (addressesIn (window cells (masterPlace u) 66)) (cell (window cells (masterPlace u) 66) 1)
+      (rw (cell-window cells (masterPlace u) 66 1 (lit< tt)) (unit .counter))
 
   module _ (words : Words cells) where
     pub memory-length-most : memoryLength cells u ≤ 131072

@@ -14,8 +14,9 @@ use Rattle.codec.specs.ReceiverLaws.{length-receiver, receiver-within}
 use Rattle.codec.specs.Receivers.{encReceiver}
 use Rattle.codec.specs.TransmitterLaws.{length-transmitter, transmitter-within}
 use Rattle.codec.specs.Transmitters.{encTransmitter}
-use Rattle.codec.specs.Window.{splice}
-use Rattle.codec.specs.WindowLaws.{length-splice, cell-before, cell-inside}
+use Rattle.codec.specs.Window.{cell, splice}
+use Rattle.codec.specs.WindowLaws.{cell-inside, cell-past}
+use Rattle.master.specs.Laws.{Counting}
 use Rattle.master.specs.Side as M
 use Rattle.master.specs.declared.side.Master.{Master}
 use Rattle.receiver.specs.Side as R
@@ -23,9 +24,10 @@ use Rattle.receiver.specs.declared.side.Receiver.{Receiver}
 use Rattle.transmitter.specs.Side as T
 use Rattle.transmitter.specs.declared.side.Transmitter.{Transmitter}
 use Rattle.cells.specs.FrameLaws.{again, unit-past}
-use Rattle.cells.specs.Layout.{countIn, holderIn, unitPlace, transmitterPlace, receiverPlace, masterPlace}
-use Rattle.cells.specs.RangeLaws.{UnitInRange, in-range-says, in-range-is, unit-says}
-use Rattle.cells.specs.Ranges.{inRange}
+use Rattle.cells.specs.HolderLaws.{holder-put, length-after-holder, count-after-holder}
+use Rattle.cells.specs.Layout.{countIn, unitPlace, transmitterPlace, receiverPlace, masterPlace}
+use Rattle.cells.specs.RangeLaws.{UnitInRange, in-range-says, in-range-is, counter-stored, unit-says}
+use Rattle.cells.specs.Ranges.{counterInRange, inRange}
 
 -- ---- the unit whose block is at b, with a group of its cells replaced
 
@@ -37,6 +39,7 @@ module _ (cells : List ℕ) (b : ℕ) (h : UnitInRange cells b) (room : b + 214 
         transmitter = within-past cells b w (omega arith) (b + 4) transmitterLimits (omega arith) ∙ h .transmitter;
         receiver = within-past cells b w (omega arith) (b + 76) receiverLimits (omega arith) ∙ h .receiver;
         master = within-past cells b w (omega arith) (b + 148) masterLimits (omega arith) ∙ h .master;
+        counter = rw (cell-past cells b w (omega arith) (b + 148 + 1) (omega arith)) (h .counter);
       }
 
   transmitter-replaced : (w : List ℕ) → length w ≡ 72 → within w 0 transmitterLimits ≡ true → UnitInRange (splice cells (b + 4) w) b
@@ -46,6 +49,7 @@ module _ (cells : List ℕ) (b : ℕ) (h : UnitInRange cells b) (room : b + 214 
         transmitter = within-spliced cells (b + 4) w (omega arith) transmitterLimits (omega arith) ∙ ok;
         receiver = within-past cells (b + 4) w (omega arith) (b + 76) receiverLimits (omega arith) ∙ h .receiver;
         master = within-past cells (b + 4) w (omega arith) (b + 148) masterLimits (omega arith) ∙ h .master;
+        counter = rw (cell-past cells (b + 4) w (omega arith) (b + 148 + 1) (omega arith)) (h .counter);
       }
 
   receiver-replaced : (w : List ℕ) → length w ≡ 72 → within w 0 receiverLimits ≡ true → UnitInRange (splice cells (b + 76) w) b
@@ -55,15 +59,17 @@ module _ (cells : List ℕ) (b : ℕ) (h : UnitInRange cells b) (room : b + 214 
         transmitter = within-before cells (b + 76) w (omega arith) (b + 4) transmitterLimits (omega arith) ∙ h .transmitter;
         receiver = within-spliced cells (b + 76) w (omega arith) receiverLimits (omega arith) ∙ ok;
         master = within-past cells (b + 76) w (omega arith) (b + 148) masterLimits (omega arith) ∙ h .master;
+        counter = rw (cell-past cells (b + 76) w (omega arith) (b + 148 + 1) (omega arith)) (h .counter);
       }
 
-  master-replaced : (w : List ℕ) → length w ≡ 66 → within w 0 masterLimits ≡ true → UnitInRange (splice cells (b + 148) w) b
-  master-replaced w long ok =
+  master-replaced : (w : List ℕ) → length w ≡ 66 → within w 0 masterLimits ≡ true → counterInRange (cell w 1) ≡ true → UnitInRange (splice cells (b + 148) w) b
+  master-replaced w long ok counts =
       record {
         own = within-before cells (b + 148) w (omega arith) b unitLimits (omega arith) ∙ h .own;
         transmitter = within-before cells (b + 148) w (omega arith) (b + 4) transmitterLimits (omega arith) ∙ h .transmitter;
         receiver = within-before cells (b + 148) w (omega arith) (b + 76) receiverLimits (omega arith) ∙ h .receiver;
         master = within-spliced cells (b + 148) w (omega arith) masterLimits (omega arith) ∙ ok;
+        counter = rw (cell-inside cells (b + 148) w (omega arith) 1 (omega arith)) counts;
       }
 
 -- ---- a side of a fitted unit stored
@@ -87,27 +93,24 @@ module _ (cells : List ℕ) (ok : inRange cells ≡ true) (u : ℕ) (fitted : u 
       again cells ok u fitted 76 (encReceiver r) (omega arith)
       (receiver-replaced cells (unitPlace u) unit room (encReceiver r) long (receiver-within r h))
 
-  pub master-in-range : (m : Master) → M.Within m → inRange (splice cells (masterPlace u) (encMaster m)) ≡ true
-  master-in-range m h =
+  pub master-in-range : (m : Master) → M.Within m → Counting m → inRange (splice cells (masterPlace u) (encMaster m)) ≡ true
+  master-in-range m h counting =
       let long = length-master m h in
       again cells ok u fitted 148 (encMaster m) (omega arith)
-      (master-replaced cells (unitPlace u) unit room (encMaster m) long (master-within m h))
+      (master-replaced cells (unitPlace u) unit room (encMaster m) long (master-within m h) (counter-stored m h counting))
 
 -- ---- another master
 
 pub holder-in-range : (cells : List ℕ) → inRange cells ≡ true → (holder : ℕ) → holder ≤ countIn cells → inRange (splice cells 1 (holder ∷ [])) ≡ true
 holder-in-range cells ok holder h =
     let r = in-range-says cells ok in
-    let s = splice cells 1 (holder ∷ []) in
-    let header = r .header in
-    let l : length s ≡ length cells = length-splice cells 1 (holder ∷ []) (omega arith) in
-    let c : countIn s ≡ countIn cells = cell-before cells 1 (holder ∷ []) (omega arith) 0 (omega arith) in
-    let n : holderIn s ≡ holder = cell-inside cells 1 (holder ∷ []) (omega arith) 0 (omega arith) in
-    in-range-is s
+    let l = length-after-holder cells ok holder in
+    let c = count-after-holder cells ok holder in
+    in-range-is (splice cells 1 (holder ∷ []))
     (record {
       header = rw l (r .header);
       most = rw c (r .most);
       room = rw (c, l) (r .room);
-      holder = rw (c, n) h;
-      units = λ k below. unit-past cells 1 (holder ∷ []) (omega arith) (unitPlace k) (omega arith) ∙ r .units k (rw c at below);
+      holder = rw (c, holder-put cells ok holder) h;
+      units = λ k below. unit-past cells 1 (holder ∷ []) (r .header) (unitPlace k) (omega arith) ∙ r .units k (rw c at below);
     })

@@ -1,7 +1,4 @@
 // Where everything lies in the lent cells: a header of 2 cells, and a block of 214 for each fitted unit.
-ghost use mathlib.Core.Path.{_≡_};
-ghost use Prim.Native.Nat.{_≤_};
-ghost use Rattle.cells.specs.Layout.{unitPlace, transmitterPlace, receiverPlace, masterPlace};
 
 // The most units that a link has.
 pub const UNITS: usize = 16;
@@ -17,31 +14,3 @@ pub const TRANSMITTER: usize = 4;
 pub const RECEIVER: usize = 76;
 
 pub const MASTER: usize = 148;
-
-pub fn unit_at(u: usize) -> usize
-    requires { ⌜ u ≤ 16 ⌝ }
-    ensures { λ r. ⌜ r ≡ unitPlace u ⌝ }
-{
-    HEADER + u * BLOCK
-}
-
-pub fn transmitter_at(u: usize) -> usize
-    requires { ⌜ u ≤ 16 ⌝ }
-    ensures { λ r. ⌜ r ≡ transmitterPlace u ⌝ }
-{
-    unit_at(u) + TRANSMITTER
-}
-
-pub fn receiver_at(u: usize) -> usize
-    requires { ⌜ u ≤ 16 ⌝ }
-    ensures { λ r. ⌜ r ≡ receiverPlace u ⌝ }
-{
-    unit_at(u) + RECEIVER
-}
-
-pub fn master_at(u: usize) -> usize
-    requires { ⌜ u ≤ 16 ⌝ }
-    ensures { λ r. ⌜ r ≡ masterPlace u ⌝ }
-{
-    unit_at(u) + MASTER
-}

@@ -1,13 +1,14 @@
 // The header, and the cells of a unit's own.
 use crate::layout::BLOCK;
 use crate::layout::HEADER;
+use crate::layout::MASTER;
 use codec::windows::put;
 ghost use mathlib.Core.List.{[], _∷_};
 ghost use mathlib.Core.Path.{_≡_};
 ghost use Prim.Native.Nat.{_+_, _≤_, _<_};
 ghost use lib.ListN.{length};
 ghost use Rattle.codec.specs.Window.{cell, splice};
-ghost use Rattle.cells.specs.Layout.{countIn, holderIn, unitPlace, addressIn, transmitterAddress, receiverAddress, memoryLength, encUnit};
+ghost use Rattle.cells.specs.Layout.{countIn, holderIn, unitPlace, addressIn, memoryLength, secondaryIn, encUnit};
 
 // A cell as a wide number, for sums.
 fn cell_at(cells: &[u16], i: usize) -> usize
@@ -33,14 +34,6 @@ pub fn holder(cells: &[u16]) -> u16
     cells[1]
 }
 
-pub fn set_holder(cells: &mut [u16], holder: u16)
-    requires { ⌜ 2 ≤ length (now cells) ⌝ }
-    ensures { λ _. ⌜ now (cells .exit) ≡ splice (now (cells .entry)) 1 (holder ∷ []) ⌝ }
-{
-    let w = [holder];
-    put(cells, 1, &w);
-}
-
 // The header of a fit: so many units, and no master.
 pub fn set_header(cells: &mut [u16], count: u16)
     requires { ⌜ 2 ≤ length (now cells) ⌝ }
@@ -58,20 +51,6 @@ pub fn address_in(cells: &[u16], k: usize, u: usize) -> usize
     cell_at(cells, HEADER + u * BLOCK + k) + 1
 }
 
-pub fn transmitter_address(cells: &[u16], u: usize) -> usize
-    requires { ⌜ (u < 16) × (unitPlace (u + 1) ≤ length (now cells)) ⌝ }
-    ensures { λ r. ⌜ r ≡ transmitterAddress (now (cells .entry)) u ⌝ }
-{
-    address_in(cells, 0, u)
-}
-
-pub fn receiver_address(cells: &[u16], u: usize) -> usize
-    requires { ⌜ (u < 16) × (unitPlace (u + 1) ≤ length (now cells)) ⌝ }
-    ensures { λ r. ⌜ r ≡ receiverAddress (now (cells .entry)) u ⌝ }
-{
-    address_in(cells, 1, u)
-}
-
 // In words.
 pub fn memory_length(cells: &[u16], u: usize) -> usize
     requires { ⌜ (u < 16) × (unitPlace (u + 1) ≤ length (now cells)) ⌝ }
@@ -79,6 +58,14 @@ pub fn memory_length(cells: &[u16], u: usize) -> usize
 {
     let at = HEADER + u * BLOCK;
     cell_at(cells, at + 2) * 65536 + cell_at(cells, at + 3) + 1
+}
+
+// SEC of a unit's master section: 0 or 1.
+pub fn secondary_in(cells: &[u16], u: usize) -> usize
+    requires { ⌜ (u < 16) × (unitPlace (u + 1) ≤ length (now cells)) ⌝ }
+    ensures { λ r. ⌜ r ≡ secondaryIn (now (cells .entry)) u ⌝ }
+{
+    cell_at(cells, HEADER + u * BLOCK + MASTER + 1) / 2048 % 2
 }
 
 // A unit's own cells into its block.

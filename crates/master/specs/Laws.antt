@@ -69,6 +69,10 @@ module _ (m : Master) (h : Within m) where
       })
       (λ e. with-addresses (returned (m .addresses)) (sized-returned (m .addresses) (h .silo)))
 
+  -- the address of a slice: the counter's place, or a number mod 32
+  pub next-lt : nextOf m .address < 32
+  next-lt = either (λ (n : Next). n .address < 32) (m .autoAddress) (λ e. h .place) (λ e. omega arith)
+
   pub within-taken-over : Within (takenOver m)
   within-taken-over = record { silo = h .silo; place = h .switch; switch = h .switch }
 

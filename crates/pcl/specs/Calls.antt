@@ -1,4 +1,4 @@
--- The calls on the lent cells: the answer and every cell. "Order: 9, 7, 1, 2, 3, then the rest."
+-- The calls at a unit, on the lent cells: the answer and every cell. "Order: 9, 7, 1, 2, 3, then the rest."
 -- Assumes nothing.
 use mathlib.Core.Bool.{not}
 use mathlib.Core.List.{List}
@@ -9,6 +9,7 @@ use Rattle.accesses.specs.Writing.{unitWritten, unitByteWritten, unitReset}
 use Rattle.cells.specs.Layout.{countIn}
 use Rattle.cells.specs.Ranges.{inRange}
 use Rattle.laws.specs.Pick.{pick}
+use Rattle.moves.specs.Periods.{unitPeriod}
 use Rattle.words.specs.declared.answers.Read.{Read}
 use Rattle.words.specs.declared.answers.Write.{Write}
 use Rattle.pcl.specs.declared.answers.ReadCall.{ReadCall}
@@ -40,3 +41,7 @@ byteCall cells unit offset byte = atUnit cells unit WriteCall.BadState WriteCall
 -- reset (unit)
 abbrev pub resetCall : List ℕ → ℕ → UnitCall × List ℕ
 resetCall cells unit = atUnit cells unit UnitCall.BadState UnitCall.NoUnit (UnitCall.Done, unitReset cells unit)
+
+-- period (unit)
+abbrev pub periodCall : List ℕ → ℕ → UnitCall × List ℕ
+periodCall cells unit = atUnit cells unit UnitCall.BadState UnitCall.NoUnit (UnitCall.Done, unitPeriod cells unit)

@@ -1,10 +1,15 @@
--- The calls as C has them: the packed number, and every cell.
+-- The calls as C has them: the packed number, every cell, and for a move every word of the memory.
 -- Assumes nothing.
 use mathlib.Core.List.{List}
 use Prim.Native.Nat.{ℕ}
-use Rattle.pcl.specs.Calls.{readCall, writeCall, byteCall, resetCall}
-use Rattle.pcl.specs.Numbers.{readPacked, writeCallNumber, doneNumber}
+use Rattle.pcl.specs.Calls.{readCall, writeCall, byteCall, resetCall, periodCall}
+use Rattle.pcl.specs.Link.{fitCall, sliceCall}
+use Rattle.pcl.specs.Numbers.{readPacked, writeCallNumber, doneNumber, fitNumber, slicePacked, moveCallNumber, levelPacked}
+use Rattle.pcl.specs.Sides.{moveCall, levelCall}
+use Rattle.pcl.specs.declared.answers.FitCall.{FitCall}
+use Rattle.pcl.specs.declared.answers.MoveCall.{MoveCall}
 use Rattle.pcl.specs.declared.answers.ReadCall.{ReadCall}
+use Rattle.pcl.specs.declared.answers.SliceCall.{SliceCall}
 use Rattle.pcl.specs.declared.answers.UnitCall.{UnitCall}
 use Rattle.pcl.specs.declared.answers.WriteCall.{WriteCall}
 
@@ -22,3 +27,22 @@ byteFace cells unit offset byte = packed writeCallNumber (byteCall cells unit of
 
 abbrev pub resetFace : List ℕ → ℕ → ℕ × List ℕ
 resetFace cells unit = packed doneNumber (resetCall cells unit)
+
+abbrev pub periodFace : List ℕ → ℕ → ℕ × List ℕ
+periodFace cells unit = packed doneNumber (periodCall cells unit)
+
+abbrev pub fitFace : List ℕ → List ℕ → ℕ × List ℕ
+fitFace cells setup = packed fitNumber (fitCall cells setup)
+
+abbrev pub sliceFace : List ℕ → ℕ → ℕ → ℕ × List ℕ
+sliceFace cells mask parity = packed slicePacked (sliceCall cells mask parity)
+
+abbrev pub packedMove : MoveCall × List ℕ × List ℕ → ℕ × List ℕ × List ℕ
+packedMove p = (moveCallNumber (p .0), p .1, p .2)
+
+abbrev pub moveFace : List ℕ → List ℕ → ℕ → ℕ → ℕ × List ℕ × List ℕ
+moveFace cells memory unit side = packedMove (moveCall cells memory unit side)
+
+-- a level changes nothing, and is lent the cells to read alone
+abbrev pub levelFace : List ℕ → ℕ → ℕ → ℕ
+levelFace cells unit side = levelPacked (levelCall cells unit side)

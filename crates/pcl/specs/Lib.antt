@@ -1,4 +1,6 @@
+pub mod Bounds
 pub mod Calls
 pub mod Face
-pub mod Guards
+pub mod Link
 pub mod Numbers
+pub mod Sides

@@ -1,9 +1,17 @@
 -- Document 01, Numbers: the number of each call's answer, and its value 65,536 times over it.
 -- Assumes nothing.
-use Prim.Native.Nat.{ℕ, _+_, _*_}
-use Rattle.words.specs.Answers.{readNumber, readWord, writeNumber}
+use mathlib.Core.Bool.{Bool}
+use Prim.Native.Nat.{ℕ, _+_, _*_, _<_}
+use Rattle.bus.specs.declared.slice.Given.{Given}
+use Rattle.bus.specs.declared.slice.Slot.{Slot}
+use Rattle.laws.specs.Bits.{bit}
+use Rattle.words.specs.Answers.{readNumber, readWord, writeNumber, moveNumber}
 use Rattle.words.specs.declared.answers.Read.{Read}
+use Rattle.pcl.specs.declared.answers.FitCall.{FitCall}
+use Rattle.pcl.specs.declared.answers.LevelCall.{LevelCall}
+use Rattle.pcl.specs.declared.answers.MoveCall.{MoveCall}
 use Rattle.pcl.specs.declared.answers.ReadCall.{ReadCall}
+use Rattle.pcl.specs.declared.answers.SliceCall.{SliceCall}
 use Rattle.pcl.specs.declared.answers.UnitCall.{UnitCall}
 use Rattle.pcl.specs.declared.answers.WriteCall.{WriteCall}
 
@@ -33,3 +41,73 @@ abbrev pub doneNumber : UnitCall → ℕ
 doneNumber UnitCall.BadState = 9
 doneNumber UnitCall.NoUnit = 1
 doneNumber UnitCall.Done = 0
+
+-- 9 "lent room too small"; 7 "set-up breaks a rule above"
+abbrev pub fitNumber : FitCall → ℕ
+fitNumber FitCall.NoRoom = 9
+fitNumber FitCall.BadSetUp = 7
+fitNumber FitCall.Done = 0
+
+-- 1 "unit not fitted, or side neither 0 nor 1"
+abbrev pub moveCallNumber : MoveCall → ℕ
+moveCallNumber MoveCall.BadState = 9
+moveCallNumber MoveCall.NoUnit = 1
+moveCallNumber (MoveCall.Side m) = moveNumber m
+
+abbrev pub levelNumber : LevelCall → ℕ
+levelNumber LevelCall.BadState = 9
+levelNumber LevelCall.NoUnit = 1
+levelNumber (LevelCall.Level b) = 0
+
+abbrev pub levelValue : LevelCall → ℕ
+levelValue LevelCall.BadState = 0
+levelValue LevelCall.NoUnit = 0
+levelValue (LevelCall.Level b) = bit b
+
+abbrev pub levelPacked : LevelCall → ℕ
+levelPacked c = levelNumber c + levelValue c * 65536
+
+-- 8 "no master at a slice"; 7 "parity mask above 1"
+abbrev pub slotNumber : Slot → ℕ
+slotNumber Slot.NoMaster = 8
+slotNumber (Slot.Given g) = 0
+
+abbrev pub sliceNumber : SliceCall → ℕ
+sliceNumber SliceCall.BadState = 9
+sliceNumber SliceCall.BadMask = 7
+sliceNumber (SliceCall.Passed s) = slotNumber s
+
+-- a slice's value: the address, A and B, in 5, 2 and 2 bits
+abbrev pub givenValue : Given → ℕ
+givenValue g = g .address + g .codes .a * 32 + g .codes .b * 128
+
+abbrev pub slotValue : Slot → ℕ
+slotValue Slot.NoMaster = 0
+slotValue (Slot.Given g) = givenValue g
+
+abbrev pub sliceValue : SliceCall → ℕ
+sliceValue SliceCall.BadState = 0
+sliceValue SliceCall.BadMask = 0
+sliceValue (SliceCall.Passed s) = slotValue s
+
+abbrev pub givenPacked : Given → ℕ
+givenPacked g = givenValue g * 65536
+
+abbrev pub slotPacked : Slot → ℕ
+slotPacked s = slotNumber s + slotValue s * 65536
+
+abbrev pub slicePacked : SliceCall → ℕ
+slicePacked c = sliceNumber c + sliceValue c * 65536
+
+-- in which they fit; `Bounds` shows that every slice's do
+abbrev pub Narrow : Given → Type 0
+Narrow g = (g .address < 32) × (g .codes .a < 4) × (g .codes .b < 4)
+
+abbrev pub NarrowSlot : Slot → Type 0
+NarrowSlot Slot.NoMaster = Unit {0}
+NarrowSlot (Slot.Given g) = Narrow g
+
+abbrev pub NarrowCall : SliceCall → Type 0
+NarrowCall SliceCall.BadState = Unit {0}
+NarrowCall SliceCall.BadMask = Unit {0}
+NarrowCall (SliceCall.Passed s) = NarrowSlot s

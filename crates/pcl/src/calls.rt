@@ -1,4 +1,4 @@
-// The calls, each with an answer of its own: its guards, and one function on a fitted unit.
+// The calls at a unit, each with an answer of its own: its guards, and one function on a fitted unit.
 use crate::answers::ReadCall;
 use crate::answers::UnitCall;
 use crate::answers::WriteCall;
@@ -11,7 +11,7 @@ use cells::units::count;
 ghost use mathlib.Core.Path.{_≡_};
 ghost use mathlib.Core.List.{List};
 ghost use Prim.Native.Nat.{ℕ};
-ghost use Rattle.pcl.specs.Calls.{readCall, writeCall, byteCall, resetCall};
+ghost use Rattle.pcl.specs.Calls.{readCall, writeCall, byteCall, resetCall, periodCall};
 
 pub fn read(cells: &mut [u16], unit: u32, offset: u32) -> ReadCall
     ensures { λ r. ⌜ _≡_ {A = ReadCall × List ℕ} (r, now (cells .exit)) (readCall (now (cells .entry)) unit offset) ⌝ }
@@ -63,5 +63,19 @@ pub fn reset(cells: &mut [u16], unit: u32) -> UnitCall
         return UnitCall::NoUnit;
     }
     reset_unit(cells, number);
+    UnitCall::Done
+}
+
+pub fn pass_period(cells: &mut [u16], unit: u32) -> UnitCall
+    ensures { λ r. ⌜ _≡_ {A = UnitCall × List ℕ} (r, now (cells .exit)) (periodCall (now (cells .entry)) unit) ⌝ }
+{
+    if !in_range(cells) {
+        return UnitCall::BadState;
+    }
+    let number = unit as usize;
+    if number >= count(cells) {
+        return UnitCall::NoUnit;
+    }
+    moves::periods::pass_period(cells, number);
     UnitCall::Done
 }

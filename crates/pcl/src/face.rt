@@ -1,15 +1,31 @@
 // The calls as C has them: plain numbers and slices.
-use crate::answers::pack_done;
-use crate::answers::pack_read;
-use crate::answers::pack_write;
+use crate::calls::pass_period;
 use crate::calls::read;
 use crate::calls::reset;
 use crate::calls::write;
 use crate::calls::write_byte;
+use crate::link::fit;
+use crate::link::slice;
+use crate::packing::pack_done;
+use crate::packing::pack_fit;
+use crate::packing::pack_level;
+use crate::packing::pack_move;
+use crate::packing::pack_read;
+use crate::packing::pack_slice;
+use crate::packing::pack_write;
+use crate::sides::level;
+use crate::sides::move_word;
 ghost use mathlib.Core.Path.{_≡_};
 ghost use mathlib.Core.List.{List};
 ghost use Prim.Native.Nat.{ℕ};
-ghost use Rattle.pcl.specs.Face.{readFace, writeFace, byteFace, resetFace};
+ghost use Rattle.pcl.specs.Face.{readFace, writeFace, byteFace, resetFace, periodFace, fitFace, sliceFace, moveFace, levelFace};
+
+#[no_mangle]
+pub extern "C" fn pcl_fit(cells: &mut [u16], setup: &[u32]) -> u32
+    ensures { λ r. ⌜ _≡_ {A = ℕ × List ℕ} (r, now (cells .exit)) (fitFace (now (cells .entry)) (now (setup .entry))) ⌝ }
+{
+    pack_fit(fit(cells, setup))
+}
 
 #[no_mangle]
 pub extern "C" fn pcl_read(cells: &mut [u16], unit: u32, offset: u32) -> u32
@@ -37,4 +53,32 @@ pub extern "C" fn pcl_reset(cells: &mut [u16], unit: u32) -> u32
     ensures { λ r. ⌜ _≡_ {A = ℕ × List ℕ} (r, now (cells .exit)) (resetFace (now (cells .entry)) unit) ⌝ }
 {
     pack_done(reset(cells, unit))
+}
+
+#[no_mangle]
+pub extern "C" fn pcl_slice(cells: &mut [u16], mask: u16, parity: u32) -> u32
+    ensures { λ r. ⌜ _≡_ {A = ℕ × List ℕ} (r, now (cells .exit)) (sliceFace (now (cells .entry)) mask parity) ⌝ }
+{
+    pack_slice(slice(cells, mask, parity))
+}
+
+#[no_mangle]
+pub extern "C" fn pcl_move(cells: &mut [u16], memory: &mut [u16], unit: u32, side: u32) -> u32
+    ensures { λ r. ⌜ _≡_ {A = ℕ × List ℕ × List ℕ} (r, now (cells .exit), now (memory .exit)) (moveFace (now (cells .entry)) (now (memory .entry)) unit side) ⌝ }
+{
+    pack_move(move_word(cells, memory, unit, side))
+}
+
+#[no_mangle]
+pub extern "C" fn pcl_period(cells: &mut [u16], unit: u32) -> u32
+    ensures { λ r. ⌜ _≡_ {A = ℕ × List ℕ} (r, now (cells .exit)) (periodFace (now (cells .entry)) unit) ⌝ }
+{
+    pack_done(pass_period(cells, unit))
+}
+
+#[no_mangle]
+pub extern "C" fn pcl_level(cells: &[u16], unit: u32, side: u32) -> u32
+    ensures { λ r. ⌜ r ≡ levelFace (now (cells .entry)) unit side ⌝ }
+{
+    pack_level(level(cells, unit, side))
 }

@@ -3,3 +3,6 @@
 pub mod answers;
 pub mod calls;
 pub mod face;
+pub mod link;
+mod packing;
+pub mod sides;

@@ -7,10 +7,12 @@ use lib.Dec.{lit<, lit≤}
 use lib.ListN.{getD}
 use Rattle.laws.specs.Pick.{either}
 use Rattle.silos.specs.Laws.{sized-none, sized-put}
+use Rattle.silos.specs.Silo.{isEmpty}
 use Rattle.words.specs.Address.{placeOf}
 use Rattle.words.specs.Codes.{coded-none}
 use Rattle.words.specs.Load.{bounded-none, bounded-moved, wordMoved}
 use Rattle.words.specs.declared.address.Place.{Place}
+use Rattle.transmitter.specs.Down.{masterless, masterMissed}
 use Rattle.transmitter.specs.Moves.{mayMove, missing, overflowing, gone, wordLoaded, movedFrom, moved}
 use Rattle.transmitter.specs.Periods.{timedOut, periodPassed}
 use Rattle.transmitter.specs.Requests.{requested, settled, failed}
@@ -48,6 +50,9 @@ pub within-period : (t : Transmitter) → Within t → Within (periodPassed t)
 within-period t h =
     either Within (t .mark && isBusy t) (λ e. within-failed t h (timedOut (t .faults)))
     (λ e. record { silo = h .silo; load = h .load; shown = h .shown; destination = h .destination; latched = h .latched; block = h .block; crc = h .crc })
+
+pub within-missed : (t : Transmitter) → Within t → Within (masterMissed t)
+within-missed t h = either Within (t .commands .sendWord && not (isEmpty (t .silo))) (λ e. within-failed t h (masterless (t .faults))) (λ e. h)
 
 module _ (t : Transmitter) (h : Within t) where
   went : (word : ℕ) → Within (gone t word (wordMoved (t .load) (t .modes .inhibitIncrement)))

@@ -1,3 +1,4 @@
+pub mod Down
 pub mod Keeps
 pub mod Moves
 pub mod Periods

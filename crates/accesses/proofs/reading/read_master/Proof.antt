@@ -12,7 +12,7 @@ use Rattle.master.specs.declared.side.Master.{Master}
 use Rattle.master.specs.declared.side.Mastership.{Mastership}
 use Rattle.transmitter.specs.declared.side.Transmitter.{Transmitter}
 use Rattle.words.specs.declared.answers.Read.{Read}
-use Rattle.accesses.specs.Fitted.{masterOf, putMaster}
+use Rattle.cells.specs.Fitted.{masterOf, putMaster}
 use Rattle.accesses.specs.Masters.{mastershipOf}
 use Rattle.accesses.specs.Reading.{afterMaster}
 use Rattle.accesses.proofs.reading.read_master.Statement.{statement}

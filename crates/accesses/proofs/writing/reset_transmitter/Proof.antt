@@ -13,7 +13,7 @@ use Rattle.master.specs.declared.side.Master.{Master}
 use Rattle.transmitter.specs.Keeps.{within-initial}
 use Rattle.transmitter.specs.Side.{initial}
 use Rattle.transmitter.specs.declared.side.Transmitter.{Transmitter}
-use Rattle.accesses.specs.Fitted.{masterOf, putTransmitter, putMaster}
+use Rattle.cells.specs.Fitted.{masterOf, putTransmitter, putMaster}
 use Rattle.accesses.proofs.writing.reset_transmitter.Statement.{statement}
 use Rattle.accesses.proofs.writing.reset_transmitter.Tie as tie
 

@@ -6,7 +6,7 @@ use Prim.Native.Nat.{ℕ}
 use native.Mathlib.Omega.{arith}
 use Rattle.receiver.specs.Keeps.{within-initial}
 use Rattle.receiver.specs.Side.{initial}
-use Rattle.accesses.specs.Fitted.{putReceiver}
+use Rattle.cells.specs.Fitted.{putReceiver}
 use Rattle.accesses.specs.Writing.{transmitterReset}
 use Rattle.accesses.proofs.writing.reset_unit.Statement.{statement}
 use Rattle.accesses.proofs.writing.reset_unit.Tie as tie

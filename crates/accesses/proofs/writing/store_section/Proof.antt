@@ -6,7 +6,7 @@ use Prim.Native.Nat.{ℕ}
 use native.Mathlib.Omega.{arith}
 use lib.ListN.{set}
 use Rattle.words.specs.declared.answers.Write.{Write}
-use Rattle.accesses.specs.Fitted.{putMaster}
+use Rattle.cells.specs.Fitted.{putMaster}
 use Rattle.accesses.proofs.writing.store_section.Statement.{statement}
 use Rattle.accesses.proofs.writing.store_section.Tie as tie
 

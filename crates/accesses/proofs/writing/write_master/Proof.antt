@@ -10,7 +10,7 @@ use Rattle.master.specs.Writing.{wordWritten}
 use Rattle.master.specs.declared.side.Master.{Master}
 use Rattle.master.specs.declared.side.Mastership.{Mastership}
 use Rattle.transmitter.specs.declared.side.Transmitter.{Transmitter}
-use Rattle.accesses.specs.Fitted.{masterOf}
+use Rattle.cells.specs.Fitted.{masterOf}
 use Rattle.accesses.specs.Masters.{mastershipOf}
 use Rattle.accesses.specs.Writing.{afterMaster}
 use Rattle.accesses.proofs.writing.write_master.Statement.{statement}

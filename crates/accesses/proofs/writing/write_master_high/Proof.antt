@@ -9,7 +9,7 @@ use Rattle.master.specs.Laws.{within-high}
 use Rattle.master.specs.Writing.{highByteWritten}
 use Rattle.master.specs.declared.side.Master.{Master}
 use Rattle.master.specs.declared.side.Mastership.{Mastership}
-use Rattle.accesses.specs.Fitted.{masterOf}
+use Rattle.cells.specs.Fitted.{masterOf}
 use Rattle.accesses.specs.Writing.{afterMaster}
 use Rattle.accesses.proofs.writing.write_master_high.Statement.{statement}
 use Rattle.accesses.proofs.writing.write_master_high.Tie as tie

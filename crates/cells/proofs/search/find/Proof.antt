@@ -5,17 +5,16 @@ use mathlib.Core.Path.{_≡_, sym, _∙_}
 use Prim.Native.Nat.{_-_, _≤_, _<_}
 use native.Mathlib.Nat.{sub-zero}
 use native.Mathlib.Omega.{arith}
-use Rattle.cells.specs.Layout.{addressIn}
-use Rattle.cells.specs.Search.{firstOf}
+use Rattle.cells.specs.Search.{numberIn, firstOf}
 use Rattle.cells.proofs.Turn.{turn}
 use Rattle.cells.proofs.search.find.Statement.{statement}
 use Rattle.cells.proofs.search.find.Tie as tie
 
 abbrev Inv-loop : tie.InvT-loop
-Inv-loop cells k count address wanted u₀ u = (u ≤ count) × (firstOf (addressIn cells k) address (count - u) u ≡ firstOf (addressIn cells k) address count 0)
+Inv-loop cells k count wanted u₀ u = (u ≤ count) × (firstOf (numberIn cells k) wanted (count - u) u ≡ firstOf (numberIn cells k) wanted count 0)
 
 abbrev μ-loop : tie.MeasureT-loop
-μ-loop cells k count address wanted u₀ u = count - u
+μ-loop cells k count wanted u₀ u = count - u
 
 loop-holds : tie.Need-loop-holds Inv-loop μ-loop
 loop-holds c = (omega arith, rw sub-zero)
@@ -25,7 +24,7 @@ loop-again c =
     let a = c .before .before .before .before .before .args in
     let l = c .before .before .before .loop in
     let h : l .u < a .count = omega arith in
-    (omega arith, sym (turn (addressIn (a .cells .now) (a .k)) (a .address) (a .count) (l .u) h ∙ rw (← c .before .address-in .ensures, ne-eqb _ _ (c .if2 .left))) ∙ l .inv .1)
+    (omega arith, sym (turn (numberIn (a .cells .now) (a .k)) (a .wanted) (a .count) (l .u) h ∙ rw (← c .before .number-in .ensures, ne-eqb _ _ (c .if2 .left))) ∙ l .inv .1)
 
 returns : tie.Need-returns Inv-loop μ-loop
 unfolding firstOf
@@ -39,7 +38,7 @@ returns-2 c =
     let a = c .before .before .before .before .before .args in
     let l = c .before .before .before .loop in
     let h : l .u < a .count = omega arith in
-    rw (← l .inv .1, turn (addressIn (a .cells .now) (a .k)) (a .address) (a .count) (l .u) h, ← c .before .address-in .ensures, eq-eqb _ _ (c .if2 .taken))
+    rw (← l .inv .1, turn (numberIn (a .cells .now) (a .k)) (a .wanted) (a .count) (l .u) h, ← c .before .number-in .ensures, eq-eqb _ _ (c .if2 .taken))
 
 pub find-spec : {M : Type 1} → statement M
 find-spec =

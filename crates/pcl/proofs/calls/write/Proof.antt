@@ -7,7 +7,7 @@ use Prim.Native.Nat.{ℕ}
 use Rattle.cells.specs.RangeLaws.{in-range-says}
 use Rattle.laws.specs.Pick.{past, here}
 use Rattle.pcl.specs.Calls.{writtenBy}
-use Rattle.pcl.specs.Guards.{fitted}
+use Rattle.cells.specs.Fitted.{fitted}
 use Rattle.pcl.proofs.calls.write.Statement.{statement}
 use Rattle.pcl.proofs.calls.write.Tie as tie
 

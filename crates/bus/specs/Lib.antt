@@ -1,0 +1,3 @@
+pub mod Idle
+pub mod Masterless
+pub mod Slice

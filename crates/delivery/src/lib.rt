@@ -1,0 +1,1 @@
+// No code: specs/ proves what a transmitter and a receiver make of a whole message.

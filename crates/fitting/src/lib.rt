@@ -1,0 +1,3 @@
+// A fit: the rules of a set-up, and the cells that it leaves.
+pub mod fit;
+pub mod setup;

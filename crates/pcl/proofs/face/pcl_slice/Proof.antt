@@ -1,0 +1,29 @@
+-- The call, and its number: what it gives fits in the bits there are (`narrow`).
+use borrow.Author.Needs.{needs}
+use mathlib.Core.List.{List}
+use mathlib.Core.Path.{ap}
+use Prim.Native.Nat.{ℕ}
+use Rattle.pcl.specs.Bounds.{narrow}
+use Rattle.pcl.specs.Face.{packed}
+use Rattle.pcl.specs.Numbers.{slicePacked, NarrowCall}
+use Rattle.pcl.specs.declared.answers.SliceCall.{SliceCall}
+use Rattle.pcl.proofs.face.pcl_slice.Statement.{statement}
+use Rattle.pcl.proofs.face.pcl_slice.Tie as tie
+
+pack-slice-requires : tie.Need-pack-slice-requires
+pack-slice-requires c κs =
+    let known = c .before .before .before .before in
+    let a = known .before .args in
+    rw (ap (λ (p : SliceCall × List ℕ). p .0) (c .before .before .slice .ensures)) (narrow (a .cells .now) (record { word = λ i. known .slice-known .given i .fits }) (a .mask) (a .parity))
+
+returns : tie.Need-returns
+returns c = rw (c .pack-slice .ensures) (ap (packed slicePacked) (c .before .before .before .slice .ensures))
+
+pub pcl-slice-spec : {M : Type 1} → statement M
+pcl-slice-spec =
+    tie.close
+    (tie.spec
+    (λ c. search needs)
+    pack-slice-requires
+    (λ c. search needs)
+    returns)

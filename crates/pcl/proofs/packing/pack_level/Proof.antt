@@ -1,0 +1,33 @@
+-- A level stands above the number, which is 0 with it.
+use borrow.Author.Needs.{needs}
+use mathlib.Core.Bool.{Bool}
+use native.Mathlib.Omega.{arith}
+use Rattle.laws.specs.Bits.{bit}
+use Rattle.laws.specs.Fields.{bit-lt}
+use Rattle.pcl.proofs.packing.pack_level.Statement.{statement}
+use Rattle.pcl.proofs.packing.pack_level.Tie as tie
+
+mul-result : tie.Need-mul-result
+mul-result c = omega (arith, bit-lt (c .before .call .given .0 .0))
+
+returns : tie.Need-returns
+returns c = rw (c .enum-told .given .1)
+
+returns-2 : tie.Need-returns-2
+returns-2 c = rw (c .enum-told2 .given .1)
+
+returns-3 : tie.Need-returns-3
+returns-3 c = rw (c .before .call .given .1) (omega arith)
+
+pub pack-level-spec : {M : Type 1} → statement M
+pack-level-spec =
+    tie.close
+    (tie.spec
+    (λ c. search needs)
+    (λ c. search needs)
+    (λ c. search needs)
+    (λ c. search needs)
+    mul-result
+    returns
+    returns-2
+    returns-3)

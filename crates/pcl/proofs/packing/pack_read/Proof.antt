@@ -1,0 +1,18 @@
+-- At each return the tests that led there say which case of the rule holds.
+use borrow.Author.Needs.{needs}
+use mathlib.Core.Path.{refl}
+use Rattle.laws.specs.Pick.{past, here}
+use Rattle.pcl.proofs.packing.pack_read.Statement.{statement}
+use Rattle.pcl.proofs.packing.pack_read.Tie as tie
+
+returns : tie.Need-returns
+returns c = rw (c .enum-told .given .1)
+
+returns-2 : tie.Need-returns-2
+returns-2 c = rw (c .enum-told2 .given .1)
+
+returns-3 : tie.Need-returns-3
+returns-3 c = rw (c .before .before .call .given .1) (c .pack-found .ensures)
+
+pub pack-read-spec : {M : Type 1} → statement M
+pack-read-spec = tie.close (tie.spec (λ c. search needs) (λ c. search needs) (λ c. search needs) (λ c. search needs) returns returns-2 returns-3)

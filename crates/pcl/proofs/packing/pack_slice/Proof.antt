@@ -1,0 +1,29 @@
+-- What the slice gives, packed.
+use borrow.Author.Needs.{needs}
+use Rattle.pcl.specs.Numbers.{NarrowCall}
+use Rattle.pcl.proofs.packing.pack_slice.Statement.{statement}
+use Rattle.pcl.proofs.packing.pack_slice.Tie as tie
+
+pack-slot-requires : tie.Need-pack-slot-requires
+pack-slot-requires c κs = rw (c .before .call .given .1) at (c .before .before .before .pre)
+
+returns : tie.Need-returns
+returns c = rw (c .enum-told .given .1)
+
+returns-2 : tie.Need-returns-2
+returns-2 c = rw (c .enum-told2 .given .1)
+
+returns-3 : tie.Need-returns-3
+returns-3 c = rw (c .before .before .call .given .1) (c .pack-slot .ensures)
+
+pub pack-slice-spec : {M : Type 1} → statement M
+pack-slice-spec =
+    tie.close
+    (tie.spec
+    (λ c. search needs)
+    (λ c. search needs)
+    (λ c. search needs)
+    pack-slot-requires
+    returns
+    returns-2
+    returns-3)

@@ -1,0 +1,43 @@
+-- The calls at one side of a unit, "side neither 0 nor 1" being number 1: 0 transmits, 1 receives.
+-- Assumes nothing.
+use mathlib.Core.Bool.{not}
+use mathlib.Core.List.{List}
+use Prim.Native.Nat.{ℕ}
+use lib.Dec.{leb, ltb, eqb}
+use lib.ListN.{length}
+use Rattle.cells.specs.Fitted.{transmitterOf, receiverOf}
+use Rattle.cells.specs.Layout.{countIn, memoryLength}
+use Rattle.cells.specs.Ranges.{inRange}
+use Rattle.laws.specs.Pick.{pick}
+use Rattle.moves.specs.Moving.{transmitterMoved, receiverMoved}
+use Rattle.receiver.specs.Requests as R
+use Rattle.transmitter.specs.Requests as T
+use Rattle.words.specs.declared.answers.Move.{Move}
+use Rattle.pcl.specs.declared.answers.LevelCall.{LevelCall}
+use Rattle.pcl.specs.declared.answers.MoveCall.{MoveCall}
+
+-- the transmitter's, the receiver's, or 1
+abbrev pub atSide : {A : Type 0} → ℕ → A → A → A → A
+atSide side transmitter receiver none = pick (eqb side 0) transmitter (pick (eqb side 1) receiver none)
+
+-- memory move (unit, side): a transmitter's leaves the memory
+abbrev pub sentBy : List ℕ → Move × List ℕ → MoveCall × List ℕ × List ℕ
+sentBy memory p = (MoveCall.Side (p .0), p .1, memory)
+
+abbrev pub receivedBy : Move × List ℕ × List ℕ → MoveCall × List ℕ × List ℕ
+receivedBy p = (MoveCall.Side (p .0), p .1, p .2)
+
+-- 9 "lent room too small; .. a lent state outside the ranges": a unit that is not fitted asks for no memory
+abbrev pub moveCall : List ℕ → List ℕ → ℕ → ℕ → MoveCall × List ℕ × List ℕ
+moveCall cells memory unit side =
+    pick (not (inRange cells)) (MoveCall.BadState, cells, memory)
+    (pick (leb (countIn cells) unit) (MoveCall.NoUnit, cells, memory)
+    (pick (ltb (length memory) (memoryLength cells unit)) (MoveCall.BadState, cells, memory)
+    (atSide side (sentBy memory (transmitterMoved cells memory unit)) (receivedBy (receiverMoved cells memory unit)) (MoveCall.NoUnit, cells, memory))))
+
+-- interrupt level (unit, side): it changes nothing
+abbrev pub levelCall : List ℕ → ℕ → ℕ → LevelCall
+levelCall cells unit side =
+    pick (not (inRange cells)) LevelCall.BadState
+    (pick (leb (countIn cells) unit) LevelCall.NoUnit
+    (atSide side (LevelCall.Level (T.levelOf (transmitterOf cells unit))) (LevelCall.Level (R.levelOf (receiverOf cells unit))) LevelCall.NoUnit))

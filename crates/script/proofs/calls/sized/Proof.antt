@@ -1,0 +1,15 @@
+-- At each return the test that led there says which case holds.
+use borrow.Author.Tests.{eq-eqb, ne-eqb}
+use mathlib.Core.Path.{refl}
+use Rattle.laws.specs.Pick.{past, here}
+use Rattle.script.proofs.calls.sized.Statement.{statement}
+use Rattle.script.proofs.calls.sized.Tie as tie
+
+returns : tie.Need-returns
+returns c = here _ (eq-eqb _ _ (c .if1 .taken)) refl
+
+returns-2 : tie.Need-returns-2
+returns-2 c = past _ (ne-eqb _ _ (c .if1 .left)) refl
+
+pub sized-spec : {M : Type 1} → statement M
+sized-spec = tie.close (tie.spec returns returns-2)

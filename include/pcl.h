@@ -1,0 +1,140 @@
+/* pcl.h - the PCL11-B link for C and C++: up to sixteen interfaces on one bus.
+ *
+ * A link is one row of 16-bit cells that the caller owns. The library has no
+ * other state: no globals, no allocation, no input or output. All cells zero is
+ * the unfitted link; pcl_fit makes a link out of cells that hold anything.
+ *
+ * What is lent. Cells, memories and set-ups are lent for one call and are the
+ * caller's again when it returns. A pointer is not null and is aligned for its
+ * type, and as many elements stand there as the length says; the length counts
+ * elements, never bytes. The cells and the memory lent to one pcl_move do not
+ * overlap, and nothing else reads or writes what is lent while a call runs. So
+ * calls on one link come one after the other; calls on different links may run
+ * at the same time. Between calls the cells may be copied, stored and loaded
+ * again, in another process too: docs/STATE.md says what each of them holds.
+ *
+ * What comes back. Every call takes every argument, ends, and answers a number
+ * with a value above it; pcl_number() and pcl_value() take an answer apart. A
+ * call answered PCL_NOT_FITTED, PCL_NO_REGISTER, PCL_BYTE_REFUSED, PCL_NOTHING,
+ * PCL_BAD_SETUP or PCL_BAD_ROOM has changed no cell and no word of a memory.
+ * Where several numbers fit, the first of PCL_BAD_ROOM, PCL_BAD_SETUP,
+ * PCL_NOT_FITTED, PCL_NO_REGISTER, PCL_BYTE_REFUSED is answered. */
+#ifndef PCL_H
+#define PCL_H
+
+#include <stddef.h>
+#include <stdint.h>
+
+#ifdef __cplusplus
+extern "C" {
+#endif
+
+enum {
+    PCL_DONE = 0,
+    PCL_NOT_FITTED = 1,     /* the unit is not fitted, or the side is neither 0 nor 1 */
+    PCL_NO_REGISTER = 2,    /* no such register, or an odd offset in a word access */
+    PCL_BYTE_REFUSED = 3,   /* a byte write to TSDB or RDDB */
+    PCL_NOTHING = 4,        /* nothing to read or to move */
+    PCL_NOT_STARTED = 5,    /* the address silo may not start: AUT ADR stays set, the rest of the write is done */
+    PCL_DROPPED = 6,        /* TSDB: the word is lost, OVERUN is set; TMMR: no address is loaded, the high byte is done */
+    PCL_BAD_SETUP = 7,      /* the set-up breaks a rule, or the parity mask is above 1 */
+    PCL_NO_MASTER = 8,      /* the slice had no master: a secondary took over, or MST DWN was set; nothing was sent */
+    PCL_BAD_ROOM = 9        /* too little room lent; except at pcl_fit, cells that docs/STATE.md has as out of range */
+};
+
+enum { PCL_TRANSMITTER = 0, PCL_RECEIVER = 1 };
+
+/* Room, in elements: the cells of a link, the numbers of a set-up. */
+#define PCL_UNITS_MOST 16
+#define PCL_CELLS(units) (2 + 214 * (size_t)(units))
+#define PCL_CELLS_MOST PCL_CELLS(PCL_UNITS_MOST)
+#define PCL_SETUP(units) (4 * (size_t)(units))
+#define PCL_MEMORY_MOST 131072
+
+/* Registers, by byte offset. The odd offset above is the high byte. */
+enum {
+    PCL_TCR = 0, PCL_TSR = 2, PCL_TSDB = 4, PCL_TSBC = 6, PCL_TSBA = 8, PCL_TMMR = 10, PCL_TSCRC = 12,
+    PCL_RCR = 16, PCL_RSR = 18, PCL_RDDB = 20, PCL_RDBC = 22, PCL_RDBA = 24, PCL_RDCRC = 26
+};
+
+/* Their bits, by the manual's names. */
+enum {
+    PCL_TCR_ST_TXM = 1 << 0, PCL_TCR_TX_INIT = 1 << 1, PCL_TCR_INH_ADI = 1 << 2, PCL_TCR_DT_O_RDY = 1 << 3,
+    PCL_TCR_EA16 = 1 << 4, PCL_TCR_EA17 = 1 << 5, PCL_TCR_IE = 1 << 6, PCL_TCR_RD_SILO = 1 << 7,
+    PCL_TCR_SND_WD = 1 << 13, PCL_TCR_TX_NPR = 1 << 14, PCL_TCR_RIB = 1 << 15
+};
+#define PCL_TCR_DESTINATION(address) ((address) << 8)
+enum {
+    PCL_TSR_TBS_BSY = 1 << 4, PCL_TSR_SORE = 1 << 5, PCL_TSR_BUSY = 1 << 6, PCL_TSR_SUC_TXF = 1 << 7,
+    PCL_TSR_DTIRDY = 1 << 8, PCL_TSR_OVERUN = 1 << 9, PCL_TSR_TIM_OUT = 1 << 10, PCL_TSR_MST_DWN = 1 << 11,
+    PCL_TSR_TXM_ERR = 1 << 12, PCL_TSR_MEM_OFL = 1 << 13, PCL_TSR_NXL = 1 << 14, PCL_TSR_ERR = 1 << 15
+};
+enum {
+    PCL_TMMR_MASTER = 1 << 8, PCL_TMMR_SEC = 1 << 9, PCL_TMMR_NOW_MST = 1 << 10, PCL_TMMR_CHN_OPN = 1 << 11,
+    PCL_TMMR_AUT_ADR = 1 << 12, PCL_TMMR_CLR_ADR = 1 << 13, PCL_TMMR_AIP_RDY = 1 << 14, PCL_TMMR_AOP_RDY = 1 << 15
+};
+enum {
+    PCL_RCR_RCV_DAT = 1 << 0, PCL_RCR_RC_INIT = 1 << 1, PCL_RCR_INH_ADI = 1 << 2, PCL_RCR_DTIRDY = 1 << 3,
+    PCL_RCR_EA16 = 1 << 4, PCL_RCR_EA17 = 1 << 5, PCL_RCR_IE = 1 << 6, PCL_RCR_LD_SILO = 1 << 7,
+    PCL_RCR_RCV_WD = 1 << 13, PCL_RCR_RC_NPR = 1 << 14, PCL_RCR_REJ = 1 << 15
+};
+enum {
+    PCL_RSR_CHN_OPN = 1 << 4, PCL_RSR_RECOM = 1 << 5, PCL_RSR_BUSY = 1 << 6, PCL_RSR_SUC_TXF = 1 << 7,
+    PCL_RSR_DTORDY = 1 << 8, PCL_RSR_BC_OFL = 1 << 9, PCL_RSR_TIM_OUT = 1 << 10, PCL_RSR_PAR = 1 << 11,
+    PCL_RSR_TXM_ERR = 1 << 12, PCL_RSR_MEM_OFL = 1 << 13, PCL_RSR_NXL = 1 << 14, PCL_RSR_ERR = 1 << 15
+};
+
+/* An answer taken apart. The value is 0 but with PCL_DONE from pcl_read (the
+ * word), pcl_level (0 or 1) and pcl_slice (the address served, and the response
+ * codes A and B, 0 to 3). */
+static inline unsigned pcl_number(uint32_t answer) { return answer & 0xFFFF; }
+static inline unsigned pcl_value(uint32_t answer) { return answer >> 16; }
+static inline unsigned pcl_address(uint32_t answer) { return pcl_value(answer) & 31; }
+static inline unsigned pcl_a(uint32_t answer) { return pcl_value(answer) >> 5 & 3; }
+static inline unsigned pcl_b(uint32_t answer) { return pcl_value(answer) >> 7 & 3; }
+
+/* Makes a link. The set-up has four numbers for each unit: transmitter address
+ * and receiver address (1 to 31, no two equal), counter switch (2 to 31), and
+ * memory length in words (1 to PCL_MEMORY_MOST). Units are numbered from 0 in
+ * this order. The cells may hold anything before; PCL_CELLS(units) of them are
+ * asked (at most PCL_CELLS_MOST), and those past that are left alone.
+ * Answers 0, 7, 9. */
+uint32_t pcl_fit(uint16_t *cells, size_t cells_length, const uint32_t *setup, size_t setup_length);
+
+/* A host's word read. A read of TSDB, RDDB or TMMR may remove what it shows, so
+ * that the cells change. Answers 0 with the word, 1, 2, 4, 9. */
+uint32_t pcl_read(uint16_t *cells, size_t cells_length, uint32_t unit, uint32_t offset);
+
+/* A host's word write. Answers 0, 1, 2, 5, 6, 9. */
+uint32_t pcl_write(uint16_t *cells, size_t cells_length, uint32_t unit, uint32_t offset, uint16_t word);
+
+/* A host's byte write; an odd offset is the high byte. Answers 0, 1, 2, 3, 5, 6, 9. */
+uint32_t pcl_write_byte(uint16_t *cells, size_t cells_length, uint32_t unit, uint32_t offset, uint8_t byte);
+
+/* One slice of the bus. The masks name the lines to be damaged, that is
+ * inverted: sixteen data lines, and parity (0 or 1). Answers 0 with the
+ * address, A and B; 7, 8, 9. */
+uint32_t pcl_slice(uint16_t *cells, size_t cells_length, uint16_t data_mask, uint32_t parity_mask);
+
+/* Moves one word between a unit's memory and a silo of it: from memory at side
+ * PCL_TRANSMITTER, to memory at side PCL_RECEIVER. The memory is that of the
+ * named unit; it has at least the fitted length, and what stands past that is
+ * left alone. NXL, BC OFL and memory overflow come with number 0.
+ * Answers 0, 1, 4, 9. */
+uint32_t pcl_move(uint16_t *cells, size_t cells_length, uint16_t *memory, size_t memory_length, uint32_t unit, uint32_t side);
+
+/* A period of time has passed for a unit: its second in a row without a word
+ * sets TIM OUT. Answers 0, 1, 9. */
+uint32_t pcl_period(uint16_t *cells, size_t cells_length, uint32_t unit);
+
+/* TX INIT and RC INIT of a unit. Answers 0, 1, 9. */
+uint32_t pcl_reset(uint16_t *cells, size_t cells_length, uint32_t unit);
+
+/* Whether a side asks for an interrupt. Answers 0 with 0 or 1; 1, 9. */
+uint32_t pcl_level(const uint16_t *cells, size_t cells_length, uint32_t unit, uint32_t side);
+
+#ifdef __cplusplus
+}
+#endif
+
+#endif

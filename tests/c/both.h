@@ -1,0 +1,174 @@
+/* both.h - the archive and the second library side by side. Each call is made on
+ * both; then the two answers have to be equal, the archive's cells have to be
+ * docs/STATE.md's form of the second library's state, and the registers, levels
+ * and memories have to show the same. The first difference ends the program. */
+#ifndef BOTH_H
+#define BOTH_H
+
+#include <stdio.h>
+#include <stdlib.h>
+#include "state.h"
+
+static struct second_link l;
+static uint16_t cells[PCL_CELLS_MOST], cells_before[PCL_CELLS_MOST];
+/* Each unit's memory twice: the archive's, the second library's. */
+static uint16_t memory[PCL_UNITS_MOST][PCL_MEMORY_MOST], memory_of_second[PCL_UNITS_MOST][PCL_MEMORY_MOST];
+static unsigned long long calls;
+/* How much is compared after each call; look_everywhere compares the rest. */
+static enum { ANSWERS, CELLS, EVERYTHING } depth = EVERYTHING;
+
+static void differ(const char *call, const char *what, uint32_t archive, uint32_t second)
+{
+    fprintf(stderr, "call %llu, %s: %s: the archive has %#x, the second library %#x\n", calls, call, what, (unsigned)archive,
+            (unsigned)second);
+    exit(1);
+}
+
+static void must_agree(const char *call, const char *what, uint32_t place, uint32_t unit, uint32_t archive, uint32_t second)
+{
+    char text[40];
+
+    if (archive == second)
+        return;
+    snprintf(text, sizeof text, "%s %u of unit %u", what, (unsigned)place, (unsigned)unit);
+    differ(call, text, archive, second);
+}
+
+/* The cells that the second library's state asks for; after a refusal those of before. */
+static void look_at_cells(const char *call, uint32_t number)
+{
+    static uint16_t wanted[PCL_CELLS_MOST], got[PCL_CELLS_MOST];
+
+    memcpy(got, cells, sizeof got);
+    memcpy(wanted, cells_before, sizeof wanted);
+    if (number == PCL_DONE || number == PCL_NOT_STARTED || number == PCL_DROPPED || number == PCL_NO_MASTER) {
+        as_cells(&l, wanted);
+        forget_unseen(wanted);
+        forget_unseen(got);
+    }
+    if (!memcmp(got, wanted, sizeof got))
+        return;
+    for (uint32_t i = 0; i < FIRST_BLOCK; i++)
+        if (got[i] != wanted[i])
+            differ(call, i == UNITS ? "the count of units" : "who has MASTER", got[i], wanted[i]);
+    for (uint32_t i = FIRST_BLOCK; i < PCL_CELLS_MOST; i++)
+        must_agree(call, "cell", (i - FIRST_BLOCK) % BLOCK, (i - FIRST_BLOCK) / BLOCK, got[i], wanted[i]);
+}
+
+/* Registers whose read may remove something come last; all reads are on copies. */
+static void look_at_registers(const char *call)
+{
+    static const uint32_t offsets[] = { PCL_TCR, PCL_TSR, PCL_TSBC, PCL_TSBA, PCL_TSCRC, PCL_RCR, PCL_RSR, PCL_RDBC, PCL_RDBA,
+                                        PCL_RDCRC, PCL_TMMR, PCL_TSDB, PCL_RDDB };
+    static uint16_t copy[PCL_CELLS_MOST];
+    static struct second_link copy_of_second;
+
+    memcpy(copy, cells, sizeof copy);
+    copy_of_second = l;
+    for (uint32_t unit = 0; unit < l.units; unit++) {
+        for (uint32_t side = 0; side < 2; side++)
+            must_agree(call, "level", side, unit, pcl_level(copy, PCL_CELLS_MOST, unit, side),
+                       second_interrupt_level(&copy_of_second, unit, side));
+        for (size_t i = 0; i < sizeof offsets / sizeof offsets[0]; i++)
+            must_agree(call, "register", offsets[i], unit, pcl_read(copy, PCL_CELLS_MOST, unit, offsets[i]),
+                       second_read(&copy_of_second, unit, offsets[i]));
+    }
+}
+
+static void look_at_memory(const char *call, uint32_t unit, size_t words)
+{
+    if (!memcmp(memory[unit], memory_of_second[unit], words * sizeof(uint16_t)))
+        return;
+    for (size_t i = 0; i < words; i++)
+        if (memory[unit][i] != memory_of_second[unit][i])
+            differ(call, "a word of a memory", memory[unit][i], memory_of_second[unit][i]);
+}
+
+static inline void look_everywhere(const char *call)
+{
+    if (depth == ANSWERS)
+        memcpy(cells_before, cells, sizeof cells);
+    look_at_cells(call, PCL_DONE);
+    look_at_registers(call);
+    for (uint32_t unit = 0; unit < PCL_UNITS_MOST; unit++)
+        look_at_memory(call, unit, PCL_MEMORY_MOST);
+}
+
+static uint32_t look(const char *call, uint32_t archive, uint32_t second)
+{
+    calls++;
+    if (archive != second)
+        differ(call, "the answer", archive, second);
+    if (depth >= CELLS) {
+        look_at_cells(call, pcl_number(archive));
+        memcpy(cells_before, cells, sizeof cells);
+    }
+    if (depth >= EVERYTHING)
+        look_at_registers(call);
+    return archive;
+}
+
+/* Both unfitted, whatever was there. */
+static inline void forget_both(void)
+{
+    memset(cells, 0, sizeof cells);
+    memset(cells_before, 0, sizeof cells);
+    memset(&l, 0, sizeof l);
+}
+
+static uint32_t call_fit(const uint32_t *setup, size_t length)
+{
+    return look("fit", pcl_fit(cells, PCL_CELLS_MOST, setup, length), second_fit(&l, setup, length));
+}
+
+static uint32_t call_write(uint32_t unit, uint32_t offset, uint32_t word)
+{
+    return look("write", pcl_write(cells, PCL_CELLS_MOST, unit, offset, (uint16_t)word),
+                second_write(&l, unit, offset, (uint16_t)word));
+}
+
+static uint32_t call_write_byte(uint32_t unit, uint32_t offset, uint32_t byte)
+{
+    return look("byte write", pcl_write_byte(cells, PCL_CELLS_MOST, unit, offset, (uint8_t)byte),
+                second_write_byte(&l, unit, offset, (uint8_t)byte));
+}
+
+static uint32_t call_read(uint32_t unit, uint32_t offset)
+{
+    return look("read", pcl_read(cells, PCL_CELLS_MOST, unit, offset), second_read(&l, unit, offset));
+}
+
+static uint32_t call_slice(uint32_t data_mask, uint32_t parity_mask)
+{
+    return look("slice", pcl_slice(cells, PCL_CELLS_MOST, (uint16_t)data_mask, parity_mask),
+                second_slice(&l, (uint16_t)data_mask, parity_mask));
+}
+
+/* A move alone is lent a memory. */
+static uint32_t call_move(uint32_t unit, uint32_t side, size_t lent)
+{
+    uint32_t place = unit % PCL_UNITS_MOST;
+    uint32_t answer = look("move", pcl_move(cells, PCL_CELLS_MOST, memory[place], lent, unit, side),
+                           second_move(&l, unit, side, memory_of_second[place], lent));
+
+    if (depth >= CELLS)
+        look_at_memory("move", place, lent);
+    return answer;
+}
+
+static uint32_t call_period(uint32_t unit)
+{
+    return look("period", pcl_period(cells, PCL_CELLS_MOST, unit), second_period(&l, unit));
+}
+
+static uint32_t call_reset(uint32_t unit)
+{
+    return look("reset", pcl_reset(cells, PCL_CELLS_MOST, unit), second_reset(&l, unit));
+}
+
+static uint32_t call_level(uint32_t unit, uint32_t side)
+{
+    return look("level", pcl_level(cells, PCL_CELLS_MOST, unit, side), second_interrupt_level(&l, unit, side));
+}
+
+#endif

@@ -1,0 +1,228 @@
+/* calls.c - what every call but fit has to refuse: each number, and the order of
+ * numbers where several fit. */
+#include "lent.h"
+
+static const uint32_t numbers[] = { 0, 1, 2, 15, 16, 17, 255, 256, 65535, 65536, 0x10000000, 0x7FFFFFFF, 0x80000000, 0xFFFFFFFF };
+enum { NUMBERS = sizeof numbers / sizeof numbers[0] };
+
+/* Every call but fit, with arguments that are good or as bad as can be. */
+static void all_answer(uint32_t number)
+{
+    for (uint32_t bad = 0; bad < 2; bad++) {
+        uint32_t unit = bad ? 99 : 0, side = bad ? 2 : 1;
+
+        REFUSED(rd(unit, bad ? 15 : PCL_TSR), number);
+        REFUSED(wr(unit, bad ? 15 : PCL_TCR, 0xFFFF), number);
+        REFUSED(wb(unit, bad ? PCL_TSDB : PCL_TCR, 0xFF), number);
+        REFUSED(mv(unit, side), number);
+        REFUSED(pd(unit), number);
+        REFUSED(rs(unit), number);
+        REFUSED(lv(unit, side), number);
+        REFUSED(sl(1, bad ? 2 : 0), number == PCL_NOT_FITTED ? bad ? PCL_BAD_SETUP : PCL_NO_MASTER : number);
+    }
+}
+
+/* 9: a cell above its limit, in the first unit and in the last one. */
+static void cells_out_of_range(uint32_t units)
+{
+    for (uint32_t u = 0; u < units; u += units > 1 ? units - 1 : 1)
+        for (size_t i = 0; i < LIMITS; i++)
+            for (unsigned far = 0; far < 2; far++) {
+                uint16_t *cell = &cells[block_at(u) + limits[i].cell], kept = *cell;
+
+                *cell = far ? 0xFFFF : (uint16_t)(limits[i].most + 1);
+                keep();
+                all_answer(PCL_BAD_ROOM);
+                *cell = kept;
+            }
+}
+
+/* 9: the counter 0, above its switch, or with a switch of 0. */
+static void counters_out_of_range(uint32_t units)
+{
+    static const uint16_t words[] = { 0, 2 << 5, 31 << 5, 2 << 5 | 3, 1 << 5 | 31, 1, 31 };
+
+    for (uint32_t u = 0; u < units; u++)
+        for (size_t i = 0; i < sizeof words / sizeof words[0]; i++) {
+            uint16_t *cell = &cells[block_at(u) + SECTION + SECTION_WORD], kept = *cell;
+
+            *cell = (uint16_t)((kept & 0x1C00) | words[i]);
+            keep();
+            all_answer(PCL_BAD_ROOM);
+            *cell = kept;
+        }
+}
+
+/* 9: the header; and the room, which is looked at before anything in it. */
+static void header_out_of_range(uint32_t units)
+{
+    uint16_t kept = cells[MASTER];
+
+    cells[MASTER] = (uint16_t)(units + 1);
+    keep();
+    all_answer(PCL_BAD_ROOM);
+    cells[MASTER] = kept;
+    cells[UNITS] = (uint16_t)(units + 1);
+    keep();
+    all_answer(PCL_BAD_ROOM);
+    lend(PCL_CELLS(40));
+    cells[UNITS] = 17;
+    keep();
+    all_answer(PCL_BAD_ROOM);
+    cells[UNITS] = (uint16_t)units;
+    lend(PCL_CELLS(units));
+    for (size_t wanted = PCL_CELLS(units); wanted-- > 0; wanted -= wanted > 300 ? 97 : 0) {
+        state_of(units);
+        lend(wanted);
+        all_answer(PCL_BAD_ROOM);
+    }
+}
+
+static void all_nines(void)
+{
+    static const uint32_t counts[] = { 0, 1, 2, 16 };
+
+    lend_memory(MEMORY + 15);
+    for (size_t i = 0; i < sizeof counts / sizeof counts[0]; i++) {
+        state_of(counts[i]);
+        cells_out_of_range(counts[i]);
+        counters_out_of_range(counts[i]);
+        header_out_of_range(counts[i]);
+    }
+}
+
+/* 1: a unit that is not fitted, before 2, 3 and whatever else. */
+static void units_not_fitted(uint32_t units)
+{
+    for (size_t i = 0; i < NUMBERS; i++) {
+        if (numbers[i] < units)
+            continue;
+        for (uint32_t offset = 0; offset < 40; offset++) {
+            REFUSED(rd(numbers[i], offset), 1);
+            REFUSED(wr(numbers[i], offset, 2), 1);
+            REFUSED(wb(numbers[i], offset, 2), 1);
+        }
+        for (uint32_t side = 0; side < 4; side++) {
+            REFUSED(mv(numbers[i], side), 1);
+            REFUSED(lv(numbers[i], side), 1);
+        }
+        REFUSED(pd(numbers[i]), 1);
+        REFUSED(rs(numbers[i]), 1);
+    }
+}
+
+/* 1: a side that is neither; 2: no register, odd words; 3: bytes of TSDB and RDDB. */
+static void bad_places(uint32_t unit)
+{
+    for (size_t i = 2; i < NUMBERS; i++) {
+        REFUSED(mv(unit, numbers[i]), 1);
+        REFUSED(lv(unit, numbers[i]), 1);
+    }
+    for (uint32_t offset = 0; offset < 600; offset++) {
+        bool none = offset == 14 || offset == 15 || offset >= 28;
+
+        if (none || offset % 2) {
+            REFUSED(rd(unit, offset), 2);
+            REFUSED(wr(unit, offset, 0xFFFF), 2);
+        }
+        if (none)
+            REFUSED(wb(unit, offset, 0xFF), 2);
+        else if (offset / 2 == PCL_TSDB / 2 || offset / 2 == PCL_RDDB / 2)
+            REFUSED(wb(unit, offset, 0xFF), 3);
+    }
+    for (size_t i = 6; i < NUMBERS; i++) {
+        REFUSED(rd(unit, numbers[i]), 2);
+        REFUSED(wr(unit, numbers[i], 2), 2);
+        REFUSED(wb(unit, numbers[i], 2), 2);
+    }
+}
+
+/* 9 before 1: a memory shorter than the fitted length, at any side. */
+static void short_memories(uint32_t units)
+{
+    for (size_t lent = 0; lent <= MEMORY + units; lent += lent < MEMORY - 2 ? 13 : 1) {
+        lend_memory(lent);
+        for (uint32_t unit = 0; unit < units; unit++)
+            for (uint32_t side = 0; side < 3; side++)
+                if (lent < MEMORY + unit)
+                    REFUSED(mv(unit, side), 9);
+        REFUSED(mv(units, 0), 1);
+    }
+}
+
+static void calls_refused(void)
+{
+    for (uint32_t units = 0; units <= 16; units += units < 2 ? 1 : 7) {
+        lend_memory(MEMORY + 15);
+        state_of(units);
+        units_not_fitted(units);
+        REFUSED(sl(0, 2), 7);
+        REFUSED(sl(0xFFFF, 0xFFFFFFFF), 7);
+        REFUSED(sl(0, 65536), 7);
+        for (uint32_t unit = 0; unit < units; unit++)
+            bad_places(unit);
+        short_memories(units);
+    }
+    length = 0;
+    lend(PCL_CELLS(0));
+    lend_memory(0);
+    all_answer(PCL_NOT_FITTED);
+}
+
+/* 4: nothing to read, nothing to move. */
+static void nothing_there(void)
+{
+    lend_memory(MEMORY + 1);
+    length = 0;
+    lend(PCL_CELLS(2));
+    IS(fit(good(2), PCL_SETUP(2)), 0);
+    keep();
+    for (uint32_t unit = 0; unit < 2; unit++) {
+        REFUSED(rd(unit, PCL_TSDB), 4);
+        REFUSED(rd(unit, PCL_RDDB), 4);
+        REFUSED(mv(unit, 0), 4);
+        REFUSED(mv(unit, 1), 4);
+    }
+    state_of(2);
+    REFUSED(mv(0, 1), 4);
+    REFUSED(mv(1, 0), 4);
+    REFUSED(mv(1, 1), 4);
+    REFUSED(rd(1, PCL_RDDB), 4);
+}
+
+/* 5, 6 and 8: no refusals of the whole, and what they leave. */
+static void partly_done(void)
+{
+    uint32_t tmmr = PCL_TMMR_SEC | PCL_TMMR_NOW_MST;
+
+    length = 0;
+    lend(PCL_CELLS(1));
+    IS(fit(good(1), PCL_SETUP(1)), 0);
+    IS(sl(0, 0), 8);
+    IS(wr(0, PCL_TMMR, tmmr | 7), 5);
+    IS(rd(0, PCL_TMMR), shown(tmmr | 7 | PCL_TMMR_AUT_ADR | PCL_TMMR_AIP_RDY | PCL_TMMR_AOP_RDY));
+    IS(sl(0, 0), 8);
+    IS(rd(0, PCL_TMMR), shown(PCL_TMMR_MASTER | PCL_TMMR_NOW_MST | 7 | PCL_TMMR_AUT_ADR | PCL_TMMR_AIP_RDY | PCL_TMMR_AOP_RDY));
+    IS(wr(0, PCL_TCR, PCL_TCR_RD_SILO), 0);
+    IS(wr(0, PCL_TMMR, PCL_TMMR_AUT_ADR | 9), 6);
+    IS(rd(0, PCL_TMMR), shown(7 | PCL_TMMR_AUT_ADR | PCL_TMMR_AOP_RDY));
+    IS(wr(0, PCL_TMMR, 9), 5);                                  /* both 5 and 6 */
+    IS(wr(0, PCL_TCR, PCL_TCR_TX_NPR | PCL_TCR_SND_WD | PCL_TCR_ST_TXM), 0);
+    IS(wr(0, PCL_TSDB, 1), 6);
+    IS(rd(0, PCL_TSR), shown(PCL_TSR_ERR | PCL_TSR_OVERUN));
+    IS(rd(0, PCL_TCR), shown(PCL_TCR_TX_NPR));
+    IS(wr(0, PCL_TCR, PCL_TCR_TX_INIT), 0);
+    IS(wr(0, PCL_TSDB, 1), 0);
+    IS(wr(0, PCL_TCR, PCL_TCR_SND_WD), 0);
+    IS(sl(0, 0), 8);
+    IS(rd(0, PCL_TSR), shown(PCL_TSR_ERR | PCL_TSR_MST_DWN | PCL_TSR_DTIRDY));
+}
+
+int main(void)
+{
+    all_nines();
+    calls_refused();
+    nothing_there();
+    partly_done();
+    return finish("refusals, calls");
+}
