@@ -38,7 +38,7 @@ enum {
     PCL_NOT_STARTED = 5,    /* the address silo may not start: AUT ADR stays set, the rest of the write is done */
     PCL_DROPPED = 6,        /* TSDB: the word is lost, OVERUN is set; TMMR: no address is loaded, the high byte is done */
     PCL_BAD_SETUP = 7,      /* the set-up breaks a rule, or the parity mask is above 1 */
-    PCL_NO_MASTER = 8,      /* the slice had no master: a secondary took over, or MST DWN was set; nothing was sent */
+    PCL_NO_MASTER = 8,      /* no master: a secondary took over, or who wants to send has MST DWN; nothing was sent */
     PCL_BAD_ROOM = 9        /* too little room lent; except at pcl_fit, cells that docs/STATE.md has as out of range */
 };
 
@@ -94,9 +94,9 @@ static inline unsigned pcl_a(uint32_t answer) { return pcl_value(answer) >> 5 & 
 static inline unsigned pcl_b(uint32_t answer) { return pcl_value(answer) >> 7 & 3; }
 
 /* Makes a link. The set-up has four numbers for each unit: transmitter address
- * and receiver address (1 to 31, no two equal), counter switch (2 to 31), and
- * memory length in words (1 to PCL_MEMORY_MOST). Units are numbered from 0 in
- * this order. The cells may hold anything before; PCL_CELLS(units) of them are
+ * and receiver address (1 to 31; no two transmitters have the same, and no two
+ * receivers), counter switch (2 to 31), and memory length in words (1 to
+ * PCL_MEMORY_MOST). Units are numbered from 0 in this order. The cells may hold anything before; PCL_CELLS(units) of them are
  * asked (at most PCL_CELLS_MOST), and those past that are left alone.
  * Answers 0, 7, 9. */
 uint32_t pcl_fit(uint16_t *cells, size_t cells_length, const uint32_t *setup, size_t setup_length);
@@ -123,8 +123,9 @@ uint32_t pcl_slice(uint16_t *cells, size_t cells_length, uint16_t data_mask, uin
  * Answers 0, 1, 4, 9. */
 uint32_t pcl_move(uint16_t *cells, size_t cells_length, uint16_t *memory, size_t memory_length, uint32_t unit, uint32_t side);
 
-/* A period of time has passed for a unit: its second in a row without a word
- * sets TIM OUT. Answers 0, 1, 9. */
+/* A period of time has passed for a unit, at both of its sides: at a transmitter
+ * that is BUSY, or a receiver whose channel is open, the second in a row with no
+ * word accepted in between sets TIM OUT. Answers 0, 1, 9. */
 uint32_t pcl_period(uint16_t *cells, size_t cells_length, uint32_t unit);
 
 /* TX INIT and RC INIT of a unit. Answers 0, 1, 9. */

@@ -1,6 +1,6 @@
 /* second.c - the link of document 01, written apart from the first program.
  *
- * Quoted sentences are document 01's; "reading n" is a line of READINGS.md. */
+ * Quoted sentences are document 01's; "reading n" is one of docs/DECISIONS.md. */
 #include "second.h"
 #include "count.h"
 #ifdef SECOND_COUNT

@@ -1,3 +1,4 @@
 pub mod Masters
+pub mod Offsets
 pub mod Reading
 pub mod Writing

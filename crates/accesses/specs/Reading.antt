@@ -1,8 +1,9 @@
--- Document 01, Registers: a word read at one unit. Offsets below 16 are the transmitter's, but for TMMR, 10; the others the receiver's.
+-- Document 01, Registers: a word read at one unit. Offsets below RCR are the transmitter's, but for TMMR; the others the receiver's.
 -- Assumes nothing.
 use mathlib.Core.List.{List}
 use Prim.Native.Nat.{ℕ}
 use lib.Dec.{eqb, ltb}
+use Rattle.cells.specs.Fitted.{transmitterOf, receiverOf, masterOf, putTransmitter, putReceiver, putMaster}
 use Rattle.cells.specs.Layout.{holderIn}
 use Rattle.laws.specs.Pick.{pick}
 use Rattle.master.specs.Reading as M
@@ -12,8 +13,8 @@ use Rattle.receiver_registers.specs.declared.registers.Reading as RD
 use Rattle.transmitter_registers.specs.Reading as T
 use Rattle.transmitter_registers.specs.declared.registers.Reading as TD
 use Rattle.words.specs.declared.answers.Read.{Read}
-use Rattle.cells.specs.Fitted.{transmitterOf, receiverOf, masterOf, putTransmitter, putReceiver, putMaster}
 use Rattle.accesses.specs.Masters.{mastershipOf}
+use Rattle.accesses.specs.Offsets.{TMMR, RCR}
 
 -- the answer, and the cells with the side put back
 abbrev pub afterTransmitter : List ℕ → ℕ → TD.Reading → Read × List ℕ
@@ -28,7 +29,8 @@ afterReceiver cells unit r = (r .answer, putReceiver cells unit (r .side))
 abbrev pub receiverRead : List ℕ → ℕ → ℕ → Read × List ℕ
 receiverRead cells unit offset = afterReceiver cells unit (R.readOf (receiverOf cells unit) offset)
 
--- TMMR shows MASTER, and the transmitter's CHN OPN; its RD SILO decides whether an address is removed
+-- "TMMR read answers number 0": a word, always. It shows MASTER, and the transmitter's CHN OPN (reading 3); its RD SILO decides
+-- whether an address is removed.
 abbrev pub afterMaster : List ℕ → ℕ → MD.Reading → Read × List ℕ
 afterMaster cells unit r = (Read.Word (r .word), putMaster cells unit (r .side))
 
@@ -39,4 +41,4 @@ masterRead cells unit =
 
 abbrev pub unitRead : List ℕ → ℕ → ℕ → Read × List ℕ
 unitRead cells unit offset =
-    pick (eqb offset 10) (masterRead cells unit) (pick (ltb offset 16) (transmitterRead cells unit offset) (receiverRead cells unit offset))
+    pick (eqb offset TMMR) (masterRead cells unit) (pick (ltb offset RCR) (transmitterRead cells unit offset) (receiverRead cells unit offset))

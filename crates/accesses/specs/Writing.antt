@@ -4,8 +4,8 @@ use mathlib.Core.Bool.{_&&_}
 use mathlib.Core.List.{List}
 use Prim.Native.Nat.{ℕ}
 use lib.Dec.{eqb, ltb}
-use lib.ListN.{set}
-use Rattle.cells.specs.Layout.{holderIn}
+use Rattle.cells.specs.Fitted.{transmitterOf, receiverOf, masterOf, putTransmitter, putReceiver, putMaster}
+use Rattle.cells.specs.Layout.{holderIn, putHolder}
 use Rattle.laws.specs.Pick.{pick}
 use Rattle.master.specs.Side as MS
 use Rattle.master.specs.Writing as M
@@ -17,15 +17,18 @@ use Rattle.transmitter.specs.Side as TS
 use Rattle.transmitter_registers.specs.Writing as T
 use Rattle.transmitter_registers.specs.declared.registers.Written as TD
 use Rattle.words.specs.declared.answers.Write.{Write}
-use Rattle.cells.specs.Fitted.{transmitterOf, receiverOf, masterOf, putTransmitter, putReceiver, putMaster}
 use Rattle.accesses.specs.Masters.{mastershipOf, holderAfter, released}
+use Rattle.accesses.specs.Offsets.{TCR, TMMR, TMMR-HIGH, RCR}
 
 -- ---- TX INIT and reset
 
--- "TX INIT .. gives that side its initial state"; it "also clears MASTER, SEC, NOW MST, empties the address silo and sets AUT ADR"
+-- "TX INIT also clears MASTER, SEC, NOW MST, empties the address silo and sets AUT ADR."
+abbrev pub sectionReset : List ℕ → ℕ → List ℕ
+sectionReset cells unit = putHolder (putMaster cells unit (MS.initialised (masterOf cells unit))) (released (holderIn cells) unit)
+
+-- "TX INIT .. gives that side its initial state, closing only its own side of a channel" (reading 10: the whole side)
 abbrev pub transmitterReset : List ℕ → ℕ → List ℕ
-transmitterReset cells unit =
-    set (putMaster (putTransmitter cells unit TS.initial) unit (MS.initialised (masterOf cells unit))) 1 (released (holderIn cells) unit)
+transmitterReset cells unit = putTransmitter (sectionReset cells unit) unit TS.initial
 
 -- "Reset does both sides."
 abbrev pub unitReset : List ℕ → ℕ → List ℕ
@@ -41,7 +44,7 @@ afterReceiver cells unit w = (w .answer, putReceiver cells unit (w .side))
 
 -- TMMR may change who has MASTER
 abbrev pub afterMaster : List ℕ → ℕ → MD.Written → Write × List ℕ
-afterMaster cells unit w = (w .answer, set (putMaster cells unit (w .side)) 1 (holderAfter (holderIn cells) unit (w .mastership)))
+afterMaster cells unit w = (w .answer, putHolder (putMaster cells unit (w .side)) (holderAfter (holderIn cells) unit (w .mastership)))
 
 -- ---- a word
 
@@ -56,12 +59,13 @@ masterWritten cells unit word =
     afterMaster cells unit
     (M.wordWritten (masterOf cells unit) (mastershipOf (holderIn cells) unit) (transmitterOf cells unit .modes .readSilo) word)
 
--- TX INIT in a write of TCR; TMMR is at 10; offsets below 16 are the transmitter's, the others the receiver's
+-- "TX INIT .. in a write gives that side its initial state ..; the rest of the write is ignored." Then TMMR; then the offsets below RCR
+-- are the transmitter's, the others the receiver's.
 abbrev pub unitWritten : List ℕ → ℕ → ℕ → ℕ → Write × List ℕ
 unitWritten cells unit offset word =
-    pick (eqb offset 0 && T.initialises word) (Write.Done, transmitterReset cells unit)
-    (pick (eqb offset 10) (masterWritten cells unit word)
-    (pick (ltb offset 16) (transmitterWritten cells unit offset word)
+    pick (eqb offset TCR && T.initialises word) (Write.Done, transmitterReset cells unit)
+    (pick (eqb offset TMMR) (masterWritten cells unit word)
+    (pick (ltb offset RCR) (transmitterWritten cells unit offset word)
     (receiverWritten cells unit offset word)))
 
 -- ---- a byte
@@ -78,14 +82,15 @@ masterLowWritten cells unit byte =
     afterMaster cells unit
     (M.lowByteWritten (masterOf cells unit) (mastershipOf (holderIn cells) unit) (transmitterOf cells unit .modes .readSilo) byte)
 
+-- its high byte has the section's bits, and no address is loaded
 abbrev pub masterHighWritten : List ℕ → ℕ → ℕ → Write × List ℕ
 masterHighWritten cells unit byte =
     afterMaster cells unit (M.highByteWritten (masterOf cells unit) (mastershipOf (holderIn cells) unit) byte)
 
 abbrev pub unitByteWritten : List ℕ → ℕ → ℕ → ℕ → Write × List ℕ
 unitByteWritten cells unit offset byte =
-    pick (eqb offset 0 && T.initialises byte) (Write.Done, transmitterReset cells unit)
-    (pick (eqb offset 10) (masterLowWritten cells unit byte)
-    (pick (eqb offset 11) (masterHighWritten cells unit byte)
-    (pick (ltb offset 16) (transmitterByteWritten cells unit offset byte)
+    pick (eqb offset TCR && T.initialises byte) (Write.Done, transmitterReset cells unit)
+    (pick (eqb offset TMMR) (masterLowWritten cells unit byte)
+    (pick (eqb offset TMMR-HIGH) (masterHighWritten cells unit byte)
+    (pick (ltb offset RCR) (transmitterByteWritten cells unit offset byte)
     (receiverByteWritten cells unit offset byte))))

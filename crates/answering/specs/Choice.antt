@@ -14,27 +14,28 @@ use Rattle.answering.specs.declared.choice.Rule.{Rule}
 abbrev pub openWithAnother : Receiver → ℕ → Bool
 openWithAnother r from = r .channel .opened && not (eqb (r .modes .sender) from)
 
--- Rule 2: "Closed: A 10, RCV WD, no ERR, room: opens .. Else 00."
+-- Rule 2: "Closed: A 10, RCV WD, no ERR, room: opens .. Else 00." Of what T sends it looks at A alone (reading 26).
 abbrev pub mayOpen : Receiver → Sent → Bool
 mayOpen r sent = eqb (sent .code) 2 && r .commands .receiveWord && not (hasError r) && dataInReady r
 
 abbrev pub decidedClosed : Receiver → Sent → Rule
 decidedClosed r sent = pick (mayOpen r sent) Rule.Opens Rule.Refuses
 
--- Rule 3: "An error bit other than BC OFL"
+-- Rule 3: "An error bit other than BC OFL". Whatever set it, R closes by it only here (reading 28).
 abbrev pub closingFault : Faults → Bool
 closingFault f = f .timeOut || f .parity || f .transmissionError || f .memoryOverflow || f .nonexistentLocation
 
--- Rule 6: "REJ without RCV DAT"
+-- Rule 6: "REJ without RCV DAT", as the bits are, also after a truncation (reading 26)
 abbrev pub rejecting : Receiver → Bool
 rejecting r = r .modes .reject && not (r .commands .receiveData)
 
--- Rule 7: "REJ with RCV DAT, A not 11, no verdict owed"
+-- Rule 7: "REJ with RCV DAT, A not 11, no verdict owed", again and again while REJ stands (reading 26)
 abbrev pub truncating : Receiver → Sent → Bool
 truncating r sent = r .modes .reject && r .commands .receiveData && not (eqb (sent .code) 3) && not (r .channel .owed)
 
 -- Rule 8: "first time it is taken .. Next time bad .. Good: for a due CRC .. for A 11, 01 while words stand in the silo, else .. success ..
--- A truncated message doesn't wait for the silo."
+-- A truncated message doesn't wait for the silo." One mark says that a verdict is owed, on a CRC of either kind, and neither RCV DAT nor
+-- RCV WD is asked (reading 25).
 abbrev pub decidedCrc : Receiver → Bool → Rule
 decidedCrc r due =
     pick (not (r .channel .owed)) Rule.TakesCrc
@@ -45,7 +46,8 @@ decidedCrc r due =
 abbrev pub decidedWord : Receiver → Rule
 decidedWord r = pick ((r .commands .receiveData || r .commands .receiveWord) && dataInReady r) Rule.Stores Rule.NotReady
 
--- Rules 8 to 10, by the code A. Rule 8: "A 11, or a due CRC (A 10 with R's own count at 128)"; rule 9: "A 10"; rule 10: "A 01"
+-- Rules 8 to 10, by the code A. Rule 8: "A 11, or a due CRC (A 10 with R's own count at 128)"; rule 9: "A 10"; rule 10: "A 01". By its own
+-- count R tells a CRC from a word, whatever T meant (reading 22).
 abbrev pub decidedByCode : Receiver → Sent → Rule
 decidedByCode r sent =
     pick (eqb (sent .code) 3) (decidedCrc r false)
@@ -59,6 +61,8 @@ decidedOpen r sent =
     (pick (eqb (sent .code) 0) Rule.OffLine
     (pick (rejecting r) Rule.Rejects (pick (truncating r sent) Rule.Truncates (decidedByCode r sent)))))
 
+-- Rule 1, rule 2, or the others: an opening word is to an open R a word as any other (docs/DECISIONS.md, "T opens while R is still open
+-- with it")
 abbrev pub decided : Receiver → ℕ → Sent → Rule
 decided r from sent =
     pick (openWithAnother r from) Rule.Other (pick (not (r .channel .opened)) (decidedClosed r sent) (decidedOpen r sent))

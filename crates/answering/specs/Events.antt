@@ -4,11 +4,11 @@ use mathlib.Core.Bool.{Bool, true, false, not, _||_}
 use Prim.Native.Nat.{ℕ, _+_}
 use lib.Dec.{eqb}
 use Rattle.laws.specs.Pick.{pick}
+use Rattle.receiver.specs.Fields.{withReject, withSender, withParity, withTransmissionError, withRejectComplete, withSuccess, withOpened, withOwed, withGood, withBadParity, withTruncated, withBlock, withCrc}
+use Rattle.receiver.specs.Groups.{withSilo, withShown, withCommands, withModes, withOutcome, withChannel, withMark}
 use Rattle.receiver.specs.Requests.{requested, failed}
-use Rattle.receiver.specs.Side.{noCommands, hasError, withSilo, withShown, withCommands, withModes, withOutcome, withChannel, withMark}
+use Rattle.receiver.specs.Side.{noCommands, hasError}
 use Rattle.receiver.specs.declared.side.Channel.{Channel}
-use Rattle.receiver.specs.declared.side.Faults.{Faults}
-use Rattle.receiver.specs.declared.side.Modes.{Modes}
 use Rattle.receiver.specs.declared.side.Outcome.{Outcome}
 use Rattle.receiver.specs.declared.side.Receiver.{Receiver}
 use Rattle.silos.specs.Silo.{put}
@@ -17,93 +17,43 @@ use Rattle.words.specs.Crc.{crcWord}
 use Rattle.words.specs.Parity.{goodParity}
 use Rattle.words.specs.declared.lines.Sent.{Sent}
 
--- "TSR bits 0 to 3 show the last own slice, are frozen by an error .. RSR's do so for slices of R's channel."
+-- "TSR bits 0 to 3 show the last own slice, are frozen by an error .. RSR's do so for slices of R's channel", the opening one too
+-- (reading 14); an error that stood before the slice freezes them (reading 15)
 abbrev pub showing : Receiver → ℕ → ℕ → Receiver
 showing r a b = withShown r (codesShown (r .shown) (hasError r) a b)
 
--- "Closing R clears RCV WD, RCV DAT, REJ."; "R is marked truncated until it closes"; "not being busy, clears" the period's mark
-abbrev shut : Channel → Channel
-shut c =
-    record {
-      opened = false;
-      owed = c .owed;
-      good = c .good;
-      badParity = c .badParity;
-      truncated = false;
-      block = c .block;
-      crc = c .crc;
-    }
-
-abbrev notRejecting : Modes → Modes
-notRejecting m =
-    record {
-      inhibitIncrement = m .inhibitIncrement;
-      interruptEnable = m .interruptEnable;
-      loadSilo = m .loadSilo;
-      memoryRequests = m .memoryRequests;
-      reject = false;
-      sender = m .sender;
-    }
-
+-- "Closing R clears RCV WD, RCV DAT, REJ."; "R is marked truncated until it closes"; "not being busy, clears" the period's mark. Nothing
+-- else changes: no silo, no load, no RC NPR, no CRC (reading 27).
 abbrev pub closed : Receiver → Receiver
-closed r = withMark (withChannel (withModes (withCommands r noCommands) (notRejecting (r .modes))) (shut (r .channel))) false
+closed r =
+    withMark
+    (withChannel (withModes (withCommands r noCommands) (withReject (r .modes) false)) (withTruncated (withOpened (r .channel) false) false))
+    false
 
 -- PAR, with its request
-abbrev parityError : Faults → Faults
-parityError f =
-    record {
-      byteCountOverflow = f .byteCountOverflow;
-      timeOut = f .timeOut;
-      parity = true;
-      transmissionError = f .transmissionError;
-      memoryOverflow = f .memoryOverflow;
-      nonexistentLocation = f .nonexistentLocation;
-    }
-
 abbrev pub parityFailed : Receiver → Receiver
-parityFailed r = failed r (parityError (r .faults))
+parityFailed r = failed r (withParity (r .faults) true)
 
 -- TXM ERR, with its request
-abbrev transmissionError : Faults → Faults
-transmissionError f =
-    record {
-      byteCountOverflow = f .byteCountOverflow;
-      timeOut = f .timeOut;
-      parity = f .parity;
-      transmissionError = true;
-      memoryOverflow = f .memoryOverflow;
-      nonexistentLocation = f .nonexistentLocation;
-    }
-
 abbrev pub transmissionFailed : Receiver → Receiver
-transmissionFailed r = failed r (transmissionError (r .faults))
+transmissionFailed r = failed r (withTransmissionError (r .faults) true)
 
 -- RECOM, with its request
-abbrev rejectComplete : Outcome → Outcome
-rejectComplete o = record { rejectComplete = true; success = o .success }
-
 abbrev pub rejectCompleted : Receiver → Receiver
-rejectCompleted r = requested (withOutcome r (rejectComplete (r .outcome)))
+rejectCompleted r = requested (withOutcome r (withRejectComplete (r .outcome) true))
 
--- "Success sets SUC TXF at both ends (and SORE, RECOM if truncated)", with its request; RSR bits 0 to 3 are "cleared by SUC TXF"
+-- "Success sets SUC TXF at both ends (and SORE, RECOM if truncated)", with its request, also where they stand (reading 11); RSR bits
+-- 0 to 3 are "cleared by SUC TXF" (reading 16)
 abbrev success : Outcome → Bool → Outcome
-success o truncated = record { rejectComplete = truncated || o .rejectComplete; success = true }
+success o truncated = withSuccess (withRejectComplete o (truncated || o .rejectComplete)) true
 
 abbrev pub succeeded : Receiver → Receiver
 succeeded r = requested (withShown (withOutcome r (success (r .outcome) (r .channel .truncated))) noCodes)
 
--- a word that is stored: it is counted, and in the CRC; whether it "had bad parity" is marked; "A word accepted .. clears" the period's mark
+-- a word that is stored, also where T meant a CRC (docs/DECISIONS.md, "A CRC that R stores"): it is counted, and in the CRC, the opening
+-- word too (reading 23); whether it "had bad parity" is marked (reading 22); "A word accepted .. clears" the period's mark
 abbrev pub withWord : Channel → ℕ → Bool → Channel
-withWord c word badParity =
-    record {
-      opened = c .opened;
-      owed = c .owed;
-      good = c .good;
-      badParity = badParity;
-      truncated = c .truncated;
-      block = c .block + 1;
-      crc = crcWord (c .crc) word;
-    }
+withWord c word badParity = withCrc (withBlock (withBadParity c badParity) (c .block + 1)) (crcWord (c .crc) word)
 
 abbrev pub wordKept : Receiver → Sent → Receiver
 wordKept r sent =
@@ -112,7 +62,7 @@ wordKept r sent =
     (withWord (r .channel) (sent .word) (not (goodParity (sent .word) (sent .parity)))))
     false
 
--- Registers, requests: "or a word stored with RCV DAT clear"
+-- Registers, requests: "or a word stored with RCV DAT clear", whatever RC NPR is (reading 12)
 abbrev pub wordStored : Receiver → Sent → Receiver
 wordStored r sent = pick (r .commands .receiveData) (wordKept r sent) (requested (wordKept r sent))
 
@@ -121,64 +71,21 @@ wordStored r sent = pick (r .commands .receiveData) (wordKept r sent) (requested
 abbrev pub freshChannel : Channel
 freshChannel = record { opened = true; owed = false; good = false; badParity = false; truncated = false; block = 0; crc = 0 }
 
-abbrev sentFrom : Modes → ℕ → Modes
-sentFrom m from =
-    record {
-      inhibitIncrement = m .inhibitIncrement;
-      interruptEnable = m .interruptEnable;
-      loadSilo = m .loadSilo;
-      memoryRequests = m .memoryRequests;
-      reject = m .reject;
-      sender = from;
-    }
-
 abbrev pub opening : Receiver → ℕ → Receiver
-opening r from = withChannel (withModes r (sentFrom (r .modes) from)) freshChannel
+opening r from = withChannel (withModes r (withSender (r .modes) from)) freshChannel
 
--- a CRC is taken: "a verdict is on the CRC as first taken", and "a CRC's parity isn't checked"
+-- a CRC is taken: "a verdict is on the CRC as first taken" (reading 25; docs/DECISIONS.md, "A verdict is an equality"), "a CRC's parity
+-- isn't checked" (reading 22), and R's own CRC and count stay (reading 23)
 abbrev pub verdict : Channel → Bool → Channel
-verdict c good =
-    record {
-      opened = c .opened;
-      owed = true;
-      good = good;
-      badParity = c .badParity;
-      truncated = c .truncated;
-      block = c .block;
-      crc = c .crc;
-    }
+verdict c good = withGood (withOwed c true) good
 
 abbrev pub crcTaken : Receiver → Sent → Receiver
 crcTaken r sent = withChannel r (verdict (r .channel) (eqb (sent .word) (r .channel .crc)))
 
--- "both counts restart", and the CRC; no verdict is owed
-abbrev afresh : Channel → Channel
-afresh c =
-    record {
-      opened = c .opened;
-      owed = false;
-      good = false;
-      badParity = c .badParity;
-      truncated = c .truncated;
-      block = 0;
-      crc = 0;
-    }
-
+-- "both counts restart", and the CRC (reading 24); no verdict is owed (reading 25)
 abbrev pub restarted : Receiver → Receiver
-restarted r = withChannel r (afresh (r .channel))
+restarted r = withChannel r (withCrc (withBlock (withGood (withOwed (r .channel) false) false) 0) 0)
 
--- "R is marked truncated until it closes"
-abbrev cut : Channel → Channel
-cut c =
-    record {
-      opened = c .opened;
-      owed = c .owed;
-      good = c .good;
-      badParity = c .badParity;
-      truncated = true;
-      block = c .block;
-      crc = c .crc;
-    }
-
+-- "R is marked truncated until it closes"; no silo is cleared (reading 27)
 abbrev pub truncatedNow : Receiver → Receiver
-truncatedNow r = withChannel r (cut (r .channel))
+truncatedNow r = withChannel r (withTruncated (r .channel) true)

@@ -1,6 +1,4 @@
 pub mod Choice
 pub mod Events
-pub mod Keeps
-pub mod Listening
-pub mod Parts
 pub mod Rules
+pub mod laws

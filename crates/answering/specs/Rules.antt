@@ -1,10 +1,9 @@
 -- Document 01, One slice: what R answers and does by each of its ten rules.
 -- Assumes nothing.
-use mathlib.Core.Bool.{Bool, true, false}
+use mathlib.Core.Bool.{true, false}
 use Prim.Native.Nat.{ℕ}
 use Rattle.receiver.specs.declared.side.Receiver.{Receiver}
 use Rattle.words.specs.Lines.{answered}
-use Rattle.words.specs.declared.lines.Answer.{Answer}
 use Rattle.words.specs.declared.lines.Sent.{Sent}
 use Rattle.answering.specs.Choice.{decided}
 use Rattle.answering.specs.Events.{showing, closed, parityFailed, transmissionFailed, rejectCompleted, succeeded, wordStored, opening, crcTaken, restarted, truncatedNow}
@@ -37,7 +36,7 @@ checkFailed r sent = answering 2 (closed (parityFailed (showing r (sent .code) 2
 abbrev pub offLine : Receiver → Sent → Answered
 offLine r sent = answering 0 (closed (transmissionFailed (showing r (sent .code) 0)))
 
--- Rule 6: "REJ without RCV DAT: RECOM, closes; T gets SORE and closes; B 01."
+-- Rule 6: "REJ without RCV DAT: RECOM, closes; T gets SORE and closes; B 01." To a closed T too (reading 26).
 abbrev pub rejects : Receiver → Sent → Answered
 rejects r sent =
     record {
@@ -45,7 +44,7 @@ rejects r sent =
       answer = record { code = 1; rejects = true; truncates = false; restarts = false; truncated = false };
     }
 
--- Rule 7: "truncation. T becomes ending, R is marked truncated until it closes, nothing is stored; B 01."
+-- Rule 7: "truncation. T becomes ending, R is marked truncated until it closes, nothing is stored; B 01." To a closed T too (reading 26).
 abbrev pub truncates : Receiver → Sent → Answered
 truncates r sent =
     record {
@@ -57,7 +56,7 @@ truncates r sent =
 abbrev pub takesCrc : Receiver → Sent → Answered
 takesCrc r sent = answering 1 (crcTaken (showing r (sent .code) 1) sent)
 
--- Rule 8: "Good: for a due CRC 11 and both counts restart"
+-- Rule 8: "Good: for a due CRC 11 and both counts restart": T learns of it whatever it sent (reading 24)
 abbrev pub restarts : Receiver → Sent → Answered
 restarts r sent =
     record {
@@ -65,7 +64,7 @@ restarts r sent =
       answer = record { code = 3; rejects = false; truncates = false; restarts = true; truncated = false };
     }
 
--- Rule 8: "for A 11 .. else 11, success and R closes."
+-- Rule 8: "for A 11 .. else 11, success and R closes." T learns whether the message was truncated (reading 27).
 abbrev pub succeeds : Receiver → Sent → Answered
 succeeds r sent =
     record {

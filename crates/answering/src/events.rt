@@ -83,9 +83,10 @@ fn keep_word(r: Receiver, sent: Sent) -> Receiver
     ensures { λ x. ⌜ x ≡ wordKept r sent ⌝ }
 {
     let silo = r.silo;
+    let before = r.channel.block;
     let crc = crc_with_word(r.channel.crc, sent.word);
     let badParity = !parity_is_good(sent.word, sent.parity);
-    let block = r.channel.block + 1;
+    let block = before + 1;
     let mut next = r;
     next.silo = silo.put(WORDS, sent.word);
     next.channel.badParity = badParity;

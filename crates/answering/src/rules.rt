@@ -18,7 +18,7 @@ use words::lines::Sent;
 use words::lines::give;
 ghost use mathlib.Core.Path.{_≡_};
 ghost use Prim.Native.Nat.{_≤_};
-ghost use Rattle.answering.specs.Parts.{toldBy, doneBy};
+ghost use Rattle.answering.specs.laws.Parts.{toldBy, doneBy};
 ghost use Rattle.answering.specs.Rules.{answeredBy};
 
 // The receiver after the slice, and its answer.

@@ -1,3 +1,3 @@
-pub mod Idle
 pub mod Masterless
 pub mod Slice
+pub mod laws

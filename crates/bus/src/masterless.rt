@@ -1,31 +1,36 @@
 // A slice with no master: the lowest unit with SEC takes over, or every transmitter that wants to send gets MST DWN.
-use cells::layout::BLOCK;
-use cells::layout::HEADER;
-use cells::layout::MASTER;
-use cells::layout::TRANSMITTER;
 use cells::layout::UNITS;
 use cells::search::find_secondary;
+use cells::sides::load_master;
+use cells::sides::load_transmitter;
+use cells::sides::store_master;
+use cells::sides::store_transmitter;
 use cells::units::count;
-use codec::masters::load_master;
-use codec::masters::store_master;
-use codec::transmitters::load_transmitter;
-use codec::transmitters::store_transmitter;
+use cells::units::put_holder;
 use transmitter::down::miss_master;
 ghost use mathlib.Core.Bool.{true};
 ghost use mathlib.Core.Path.{_≡_};
 ghost use Rattle.cells.specs.Fitted.{Fitted};
 ghost use Rattle.cells.specs.Layout.{countIn};
 ghost use Rattle.cells.specs.Ranges.{inRange};
-ghost use Rattle.bus.specs.Masterless.{takenOverBy, missedUpTo, withoutMaster};
+ghost use Rattle.bus.specs.Masterless.{takenOverBy, missedAt, missedUpTo, withoutMaster};
 
 fn take_over(cells: &mut [u16], unit: usize)
     requires { ⌜ Fitted (now cells) unit ⌝ }
     ensures { λ _. ⌜ now (cells .exit) ≡ takenOverBy (now (cells .entry)) unit ⌝ }
 {
-    let at = HEADER + unit * BLOCK + MASTER;
-    let section = load_master(cells, at);
-    store_master(cells, at, section.take_over());
-    cells[1] = (unit + 1) as u16;
+    let holder = (unit + 1) as u16;
+    let section = load_master(cells, unit).take_over();
+    store_master(cells, unit, section);
+    put_holder(cells, holder);
+}
+
+fn miss_at(cells: &mut [u16], unit: usize)
+    requires { ⌜ Fitted (now cells) unit ⌝ }
+    ensures { λ _. ⌜ now (cells .exit) ≡ missedAt (now (cells .entry)) unit ⌝ }
+{
+    let t = miss_master(load_transmitter(cells, unit));
+    store_transmitter(cells, unit, t);
 }
 
 fn miss_masters(cells: &mut [u16])
@@ -33,9 +38,7 @@ fn miss_masters(cells: &mut [u16])
     ensures { λ _. ⌜ now (cells .exit) ≡ missedUpTo (countIn (now (cells .entry))) (now (cells .entry)) ⌝ }
 {
     for unit in 0..count(cells) {
-        let at = HEADER + unit * BLOCK + TRANSMITTER;
-        let t = load_transmitter(cells, at);
-        store_transmitter(cells, at, miss_master(t));
+        miss_at(cells, unit);
     }
 }
 

@@ -1,21 +1,16 @@
 // A slice: whose it is, whom its transmitter addresses, and what it leaves.
 use crate::masterless::pass_masterless;
-use cells::layout::BLOCK;
-use cells::layout::HEADER;
-use cells::layout::MASTER;
-use cells::layout::RECEIVER;
-use cells::layout::TRANSMITTER;
 use cells::layout::UNITS;
 use cells::search::find_receiver;
 use cells::search::find_transmitter;
+use cells::sides::load_master;
+use cells::sides::load_receiver;
+use cells::sides::load_transmitter;
+use cells::sides::store_master;
+use cells::sides::store_receiver;
+use cells::sides::store_transmitter;
 use cells::units::count;
 use cells::units::holder;
-use codec::masters::load_master;
-use codec::masters::store_master;
-use codec::receivers::load_receiver;
-use codec::receivers::store_receiver;
-use codec::transmitters::load_transmitter;
-use codec::transmitters::store_transmitter;
 use sending::choice::acts;
 use sending::choice::choose;
 use sending::choice::destination;
@@ -57,10 +52,9 @@ fn exchange_with(
     requires { ⌜ (from < 32) × (t ≡ transmitterOf (now cells) unit) ⌝ }
     ensures { λ r. ⌜ _≡_ {A = Codes × List ℕ} (r, now (cells .exit)) (heardBy (now (cells .entry)) unit other from mask parity) ⌝ }
 {
-    let at = HEADER + other * BLOCK + RECEIVER;
-    let pair = exchange(t, load_receiver(cells, at), from, mask, parity);
-    store_transmitter(cells, HEADER + unit * BLOCK + TRANSMITTER, pair.transmitter);
-    store_receiver(cells, at, pair.receiver);
+    let pair = exchange(t, load_receiver(cells, other), from, mask, parity);
+    store_transmitter(cells, unit, pair.transmitter);
+    store_receiver(cells, other, pair.receiver);
     pair.codes
 }
 
@@ -70,11 +64,7 @@ fn send_unheard(cells: &mut [u16], unit: usize, t: Transmitter) -> Codes
     ensures { λ r. ⌜ _≡_ {A = Codes × List ℕ} (r, now (cells .exit)) (unheard (now (cells .entry)) unit) ⌝ }
 {
     let alone = send_alone(t);
-    store_transmitter(
-        cells,
-        HEADER + unit * BLOCK + TRANSMITTER,
-        alone.transmitter,
-    );
+    store_transmitter(cells, unit, alone.transmitter);
     alone.codes
 }
 
@@ -104,7 +94,7 @@ fn serve_unit(cells: &mut [u16], unit: usize, from: u16, mask: u16, parity: bool
     requires { ⌜ (unit < countIn (now cells)) × Fitted (now cells) unit × (from < 32) ⌝ }
     ensures { λ r. ⌜ _≡_ {A = Codes × List ℕ} (r, now (cells .exit)) (sliceOf (now (cells .entry)) unit from mask parity) ⌝ }
 {
-    let t = load_transmitter(cells, HEADER + unit * BLOCK + TRANSMITTER);
+    let t = load_transmitter(cells, unit);
     if !acts(choose(t)) {
         return Codes::none();
     }
@@ -136,10 +126,8 @@ fn serve_next(cells: &mut [u16], unit: usize, mask: u16, parity: bool) -> Given
     requires { ⌜ (unit < countIn (now cells)) × Fitted (now cells) unit ⌝ }
     ensures { λ r. ⌜ _≡_ {A = Given × List ℕ} (r, now (cells .exit)) (masterSlice (now (cells .entry)) unit mask parity) ⌝ }
 {
-    let at = HEADER + unit * BLOCK + MASTER;
-    let section = load_master(cells, at);
-    let next = section.next_address();
-    store_master(cells, at, next.side);
+    let next = load_master(cells, unit).next_address();
+    store_master(cells, unit, next.side);
     serve(cells, next.address, mask, parity)
 }
 

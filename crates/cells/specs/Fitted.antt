@@ -12,7 +12,7 @@ use Rattle.codec.specs.Masters.{encMaster, masterAt}
 use Rattle.codec.specs.Receivers.{encReceiver, receiverAt}
 use Rattle.codec.specs.Transmitters.{encTransmitter, transmitterAt}
 use Rattle.codec.specs.Window.{splice}
-use Rattle.master.specs.Laws.{Counting}
+use Rattle.master.specs.Side.{Counting}
 use Rattle.master.specs.Side as M
 use Rattle.master.specs.declared.side.Master.{Master}
 use Rattle.receiver.specs.Side as R
@@ -20,9 +20,9 @@ use Rattle.receiver.specs.declared.side.Receiver.{Receiver}
 use Rattle.transmitter.specs.Side as T
 use Rattle.transmitter.specs.declared.side.Transmitter.{Transmitter}
 use Rattle.cells.specs.Layout.{countIn, unitPlace, transmitterPlace, receiverPlace, masterPlace}
-use Rattle.cells.specs.RangeLaws.{in-range-says}
+use Rattle.cells.specs.laws.RangeLaws.{in-range-says}
 use Rattle.cells.specs.Ranges.{inRange}
-use Rattle.cells.specs.SideLaws.{block-fits, transmitter-at, receiver-at, master-at, counting-at}
+use Rattle.cells.specs.laws.SideLaws.{block-fits, transmitter-at, receiver-at, master-at, counting-at}
 
 pub record Fitted (cells : List ℕ) (unit : ℕ) : Type 0 where
   pub number : unit < 16

@@ -2,17 +2,27 @@
 -- Assumes nothing.
 use mathlib.Core.List.{List, [], _∷_}
 use Prim.Native.Nat.{ℕ, _+_, _-_, _*_, _/_, _%_, _^_}
+use lib.ListN.{set}
 use Rattle.codec.specs.Window.{cell}
 
 -- ---- the header
 
--- cell 0: the count of units
-abbrev pub countIn : List ℕ → ℕ
-countIn cells = cell cells 0
+-- the count of units
+abbrev pub COUNT : ℕ
+COUNT = 0
 
--- cell 1: who is master, 0 nobody, else the unit's number + 1
+-- who is master: 0 nobody, else the unit's number + 1
+abbrev pub HOLDER : ℕ
+HOLDER = 1
+
+abbrev pub countIn : List ℕ → ℕ
+countIn cells = cell cells COUNT
+
 abbrev pub holderIn : List ℕ → ℕ
-holderIn cells = cell cells 1
+holderIn cells = cell cells HOLDER
+
+abbrev pub putHolder : List ℕ → ℕ → List ℕ
+putHolder cells holder = set cells HOLDER holder
 
 -- ---- a unit's block: 4 cells of its own, 72 of its transmitter, 72 of its receiver, 66 of its master section
 

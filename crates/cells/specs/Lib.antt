@@ -1,11 +1,5 @@
-pub mod FitLaws
 pub mod Fitted
-pub mod FrameLaws
-pub mod HolderLaws
 pub mod Layout
-pub mod PutLaws
-pub mod RangeLaws
 pub mod Ranges
 pub mod Search
-pub mod SideLaws
-pub mod StoreLaws
+pub mod laws

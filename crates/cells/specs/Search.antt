@@ -9,9 +9,9 @@ use native.Mathlib.Nat.{eq-or-lt-of-le}
 use native.Mathlib.Omega.{arith}
 use borrow.Author.Tests.{eqb-true, eqb-false, ne-eqb}
 use lib.Dec.{eqb, ltb, lit<}
-use Rattle.codec.specs.EndLaws.{flag-back}
+use Rattle.codec.specs.laws.EndLaws.{flag-back}
 use Rattle.codec.specs.Masters.{masterAt}
-use Rattle.codec.specs.WindowLaws.{cell-window}
+use Rattle.codec.specs.laws.WindowLaws.{cell-window}
 use Rattle.laws.specs.Bits.{bit, on}
 use Rattle.laws.specs.Pick.{pick}
 use Rattle.cells.specs.Layout.{addressIn, transmitterAddress, receiverAddress, masterPlace, secondaryIn}

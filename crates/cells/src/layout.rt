@@ -6,6 +6,10 @@ pub const UNITS: usize = 16;
 // The header's cells: the count of units, and who is master.
 pub const HEADER: usize = 2;
 
+pub const COUNT: usize = 0;
+
+pub const HOLDER: usize = 1;
+
 // A unit's block: 4 cells of its own, 72 of its transmitter, 72 of its receiver, 66 of its master section.
 pub const BLOCK: usize = 214;
 

@@ -1,6 +1,8 @@
 // Whether a lent state is in range. Each call asks this, so it counts: about 45 ns for 16 units.
 use crate::layout::BLOCK;
+use crate::layout::COUNT;
 use crate::layout::HEADER;
+use crate::layout::HOLDER;
 use crate::layout::MASTER;
 use crate::layout::RECEIVER;
 use crate::layout::TRANSMITTER;
@@ -84,5 +86,5 @@ pub fn in_range(cells: &[u16]) -> bool
     if cells.len() < HEADER + units * BLOCK {
         return false;
     }
-    (cells[1] <= cells[0]) & units_in_range(cells, units)
+    (cells[HOLDER] <= cells[COUNT]) & units_in_range(cells, units)
 }

@@ -1,6 +1,8 @@
 // The header, and the cells of a unit's own.
 use crate::layout::BLOCK;
+use crate::layout::COUNT;
 use crate::layout::HEADER;
+use crate::layout::HOLDER;
 use crate::layout::MASTER;
 use codec::windows::put;
 ghost use mathlib.Core.List.{[], _∷_};
@@ -8,7 +10,7 @@ ghost use mathlib.Core.Path.{_≡_};
 ghost use Prim.Native.Nat.{_+_, _≤_, _<_};
 ghost use lib.ListN.{length};
 ghost use Rattle.codec.specs.Window.{cell, splice};
-ghost use Rattle.cells.specs.Layout.{countIn, holderIn, unitPlace, addressIn, memoryLength, secondaryIn, encUnit};
+ghost use Rattle.cells.specs.Layout.{countIn, holderIn, putHolder, unitPlace, addressIn, memoryLength, secondaryIn, encUnit};
 
 // A cell as a wide number, for sums.
 fn cell_at(cells: &[u16], i: usize) -> usize
@@ -23,7 +25,7 @@ pub fn count(cells: &[u16]) -> usize
     requires { ⌜ 2 ≤ length (now cells) ⌝ }
     ensures { λ r. ⌜ r ≡ countIn (now (cells .entry)) ⌝ }
 {
-    cell_at(cells, 0)
+    cell_at(cells, COUNT)
 }
 
 // Who is master: 0 nobody, else the unit's number + 1.
@@ -31,7 +33,14 @@ pub fn holder(cells: &[u16]) -> u16
     requires { ⌜ 2 ≤ length (now cells) ⌝ }
     ensures { λ r. ⌜ r ≡ holderIn (now (cells .entry)) ⌝ }
 {
-    cells[1]
+    cells[HOLDER]
+}
+
+pub fn put_holder(cells: &mut [u16], holder: u16)
+    requires { ⌜ 2 ≤ length (now cells) ⌝ }
+    ensures { λ _. ⌜ now (cells .exit) ≡ putHolder (now (cells .entry)) holder ⌝ }
+{
+    cells[HOLDER] = holder;
 }
 
 // The header of a fit: so many units, and no master.

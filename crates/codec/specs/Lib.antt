@@ -1,14 +1,7 @@
-pub mod EndLaws
 pub mod Ends
-pub mod LimitLaws
 pub mod Limits
-pub mod MasterLaws
 pub mod Masters
-pub mod ReceiverLaws
-pub mod ReceiverWords
 pub mod Receivers
-pub mod TransmitterLaws
-pub mod TransmitterWords
 pub mod Transmitters
 pub mod Window
-pub mod WindowLaws
+pub mod laws

@@ -1,5 +1,5 @@
--- Document 01, Conditions of demand 3: those at the opening, as far as they are of the two ends and their memories. The opening slice is
--- a premise beside them (`Opening.opened`); what the two ends are asked from then on is `Delivery.Allowed`.
+-- Document 01, Conditions of demand 3: those at the opening, which are of the two ends and their memories. `promise` has the opening
+-- slice (`Opening`) and the conditions after it (`Conditions`).
 -- Assumes nothing.
 use mathlib.Core.Bool.{Bool, true, false}
 use mathlib.Core.Path.{_≡_}
@@ -61,7 +61,6 @@ pub record Conditions (x : Ends) (sendingLength receivingLength : ℕ) (shared :
   pub storedStretch : Stretch (targetOf x) (length (contentOf x)) receivingLength
   -- "not overlapping in a shared memory"
   pub stretchesApart : shared ≡ true → Apart (sourceOf x) (leftOf x) (targetOf x) (length (contentOf x))
-  pub oneMemory : shared ≡ true → x .sending ≡ x .receiving
   -- Numbers, 9: the memories are lent with all their words
   pub sendingLent : sendingLength ≤ length (x .sending)
   pub receivingLent : receivingLength ≤ length (x .receiving)

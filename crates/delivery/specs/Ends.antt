@@ -16,16 +16,6 @@ pub record Ends : Type 0 where
   pub sending : List ℕ
   pub receiving : List ℕ
 
--- the ends with one of them, or the sending memory, changed
-abbrev pub withTransmitter : Ends → Transmitter → Ends
-withTransmitter x t = record { transmitter = t; receiver = x .receiver; sending = x .sending; receiving = x .receiving }
-
-abbrev pub withReceiver : Ends → Receiver → Ends
-withReceiver x r = record { transmitter = x .transmitter; receiver = r; sending = x .sending; receiving = x .receiving }
-
-abbrev pub withSending : Ends → List ℕ → Ends
-withSending x memory = record { transmitter = x .transmitter; receiver = x .receiver; sending = memory; receiving = x .receiving }
-
 -- what stays as it is from the opening on
 pub record Message : Type 0 where
   -- T's address, and R's

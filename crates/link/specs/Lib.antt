@@ -1,3 +1,5 @@
-pub mod LineLaws
-pub mod Perform
-pub mod Running
+pub mod Beginning
+pub mod Script
+pub mod States
+pub mod Turns
+pub mod laws

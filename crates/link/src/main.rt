@@ -1,62 +1,38 @@
-// The script program: a line for each record of its input. What a record says, what its call does and what its line has are
-// proved of the functions that this program calls.
-mod perform;
+// The script program: a line for each record of its input. What is printed is always a beginning of what document 01 asks; where it is
+// not all of it, standard error says why.
+mod state;
 mod streams;
+mod turns;
 
-use perform::perform;
-use script::calls::Cursor;
-use script::calls::Found;
-use script::lines::Line;
-use script::records::next_record;
-use streams::State;
-use streams::finish;
-use streams::put;
-use streams::refill;
+use libc::STDERR_FILENO;
+use state::Input;
+use state::State;
+use state::Text;
+use turns::turn;
 ghost use Prim.Native.Nat.{_≤_};
 ghost use lib.ListN.{length};
-ghost use Rattle.link.specs.Running.{Sound};
 
 // The cells of 16 units, and their memories of 64 words.
 const CELLS: usize = 3426;
 
 const MEMORIES: usize = 1024;
 
-// One record, or more of the input.
-fn turn(
-    state: State,
-    window: &mut [u8],
-    lines: &mut [u8],
-    cells: &mut [u16],
-    memories: &mut [u16],
-) -> State
-    requires { ⌜ Sound state (now window) (now lines) ⌝ }
-    requires { ⌜ 1024 ≤ length (now memories) ⌝ }
-    ensures { λ r. ⌜ Sound r (now (window .entry)) (now (lines .entry)) ⌝ }
-{
-    let end = state.end;
-    let found = next_record(&window[0..end], Cursor { at: state.at }, state.ended);
-    match found {
-        Found::Call(call, next) => {
-            let line = perform(call, window, cells, memories);
-            let mut after = state;
-            after.at = next.at;
-            put(after, lines, line)
-        }
-        Found::End => finish(state, lines),
-        Found::Stop => finish(put(state, lines, Line::Stop), lines),
-        Found::More => refill(state, window, lines),
-    }
-}
-
-// Nothing says that an input ends, and a proved loop has to: it counts down from a number that no input uses up.
+// Nothing says that an input ends, or that a call which is tried again ever succeeds, and a proved loop has to end: it counts down from
+// a number that no run uses up.
 fn run(window: &mut [u8], lines: &mut [u8], cells: &mut [u16], memories: &mut [u16])
-    requires { ⌜ 1024 ≤ length (now memories) ⌝ }
+    requires { ⌜ (770 ≤ length (now window)) × (1024 ≤ length (now memories)) ⌝ }
 {
     let mut state = State {
-        at: 0,
-        end: 0,
-        ended: false,
-        held: 0,
+        input: Input {
+            at: 0,
+            end: 0,
+            ended: false,
+        },
+        text: Text {
+            from: 0,
+            held: 0,
+            writing: false,
+        },
         done: false,
     };
     let mut turns = u64::MAX;
@@ -67,6 +43,10 @@ fn run(window: &mut [u8], lines: &mut [u8], cells: &mut [u16], memories: &mut [u
         }
         turns -= 1;
     }
+    io::write_all(
+        STDERR_FILENO,
+        b"link: lines are missing: no turns are left\n",
+    );
 }
 
 fn main() {

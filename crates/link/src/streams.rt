@@ -1,91 +1,70 @@
-// The input, through a window that moves over it, and the text, held back until there is much of it.
+// One call of the system for the text, and one for the input. Whatever fails is said on standard error.
+use libc::EAGAIN;
+use libc::EINTR;
+use libc::STDERR_FILENO;
 use libc::STDIN_FILENO;
 use libc::STDOUT_FILENO;
-use script::lines::LONGEST;
-use script::lines::Line;
-use script::lines::put_line;
-use script::windows::keep_rest;
-ghost use mathlib.Core.Path.{_≡_};
-ghost use Prim.Native.Nat.{_≤_};
+ghost use Prim.Native.Nat.{ℕ, _<_};
 ghost use lib.ListN.{length};
-ghost use Rattle.link.specs.Running.{Sound};
+ghost use Rattle.link.specs.States.{Answered};
 
-// The window holds `end` bytes of the input, and those before `at` are read. `held` bytes of text are not written yet.
-pub struct State {
-    pub at: usize,
-    pub end: usize,
-    pub ended: bool,
-    pub held: usize,
-    pub done: bool,
+// What became of a read or a write: it moved so many bytes; there is no more to read; it is to be tried again; or it failed.
+pub enum Answer {
+    Moved(usize),
+    Ended,
+    Again,
+    Failed,
 }
 
-fn write_held(lines: &[u8], held: usize)
-    requires { ⌜ held ≤ length (now lines) ⌝ }
+// A call that a signal interrupted, or that would have had to wait, is tried again. The second lets others run first, such as the
+// partner that it waits for. Of any other that failed it is said what failed, and why.
+fn refused(what: &[u8]) -> Answer
+    ensures { λ r. ⌜ ((most : ℕ) → Answered most r) ⌝ }
 {
-    io::write_all(STDOUT_FILENO, &lines[0..held]);
-}
-
-// Room for a line: what is held is written where there is none.
-fn make_room(lines: &[u8], held: usize) -> usize
-    requires { ⌜ held ≤ length (now lines) ⌝ }
-    ensures { λ r. ⌜ r ≤ length (now (lines .entry)) ⌝ }
-{
-    if lines.len() - held < LONGEST {
-        write_held(lines, held);
-        return 0;
+    let error = os::errno();
+    if error == EINTR {
+        return Answer::Again;
     }
-    held
+    if error == EAGAIN {
+        libc::sched_yield();
+        return Answer::Again;
+    }
+    os::fail(what);
+    Answer::Failed
 }
 
-fn read_some(room: &mut [u8]) -> usize
-    ensures { λ r. ⌜ r ≤ length (now (room .entry)) ⌝ }
+// Writes the front of a text, as many bytes as the system takes. One that takes none, and says no reason, has failed too.
+pub fn write_some(text: &[u8]) -> Answer
+    requires { ⌜ 0 < length (now text) ⌝ }
+    ensures { λ r. ⌜ Answered (length (now (text .entry))) r ⌝ }
+{
+    let got = libc::write(STDOUT_FILENO, text);
+    if got < 0 {
+        return refused(b"link: lines are missing: standard output");
+    }
+    let count = io::count(got, text);
+    if count == 0 {
+        io::write_all(
+            STDERR_FILENO,
+            b"link: lines are missing: standard output takes no more\n",
+        );
+        return Answer::Failed;
+    }
+    Answer::Moved(count)
+}
+
+// Reads into the front of a room, as many bytes as the system gives.
+pub fn read_some(room: &mut [u8]) -> Answer
+    requires { ⌜ 0 < length (now room) ⌝ }
+    ensures { λ r. ⌜ Answered (length (now (room .entry))) r ⌝ }
 {
     let got = libc::read(STDIN_FILENO, room);
-    io::count(got, room)
-}
-
-// More of the input. What is held is written first, for a partner that waits for it. A read that fails is the end of the input.
-pub fn refill(state: State, window: &mut [u8], lines: &[u8]) -> State
-    requires { ⌜ Sound state (now window) (now lines) ⌝ }
-    ensures { λ r. ⌜ Sound r (now (window .entry)) (now (lines .entry)) ⌝ }
-{
-    write_held(lines, state.held);
-    let left = keep_rest(window, state.at, state.end);
-    let got = read_some(&mut window[left..]);
-    State {
-        at: 0,
-        end: left + got,
-        ended: got == 0,
-        held: 0,
-        done: false,
+    if got < 0 {
+        return refused(b"link: lines are missing: standard input");
     }
-}
-
-pub fn finish(state: State, lines: &[u8]) -> State
-    requires { ⌜ state .held ≤ length (now lines) ⌝ }
-    ensures { λ r. ⌜ (r .end ≡ state .end) × (r .held ≡ 0) ⌝ }
-{
-    write_held(lines, state.held);
-    State {
-        at: state.at,
-        end: state.end,
-        ended: true,
-        held: 0,
-        done: true,
+    let count = io::count(got, room);
+    if count == 0 {
+        return Answer::Ended;
     }
-}
-
-pub fn put(state: State, lines: &mut [u8], line: Line) -> State
-    requires { ⌜ state .held ≤ length (now lines) ⌝ }
-    ensures { λ r. ⌜ (r .end ≡ state .end) × (r .held ≤ length (now (lines .entry))) ⌝ }
-{
-    let put = put_line(lines, state.held, line);
-    let held = make_room(lines, put);
-    State {
-        at: state.at,
-        end: state.end,
-        ended: state.ended,
-        held,
-        done: false,
-    }
+    Answer::Moved(count)
 }

@@ -1,10 +1,8 @@
-pub mod Counter
 pub mod Cycle
-pub mod Laws
 pub mod Reading
 pub mod Ring
-pub mod Rotation
 pub mod Section
 pub mod Side
 pub mod Table
 pub mod Writing
+pub mod laws

@@ -2,12 +2,11 @@
 -- set."
 -- Assumes nothing.
 use mathlib.Core.Bool.{Bool, not, _&&_}
-use Prim.Native.Nat.{ℕ, _+_, _*_, _^_, _<_}
-use native.Mathlib.Omega.{arith}
-use Rattle.laws.specs.Bits.{bit}
-use Rattle.laws.specs.Fields.{bit-lt}
+use Prim.Native.Nat.{ℕ, _+_}
+use Rattle.laws.specs.Bits.{setAt}
 use Rattle.laws.specs.Pick.{pick}
 use Rattle.silos.specs.Silo.{isEmpty, oldest, taken}
+use Rattle.words.specs.bits.TMMR
 use Rattle.master.specs.Ring.{address}
 use Rattle.master.specs.Section.{hasMaster}
 use Rattle.master.specs.Side.{withAddresses}
@@ -16,19 +15,19 @@ use Rattle.master.specs.declared.registers.Reading.{Reading}
 use Rattle.master.specs.declared.side.Master.{Master}
 use Rattle.master.specs.declared.side.Mastership.{Mastership}
 
--- TMMR: 0 to 4 the address silo's output, 8 MASTER, 9 SEC, 10 NOW MST, 11 CHN OPN, 12 AUT ADR, 14 AIP RDY, 15 AOP RDY; 5 to 7 and CLR ADR read 0
+-- TMMR: the address silo's output at bits 0 to 4, and the flags at their places; bits 5 to 7 and CLR ADR read 0 (reading 4)
 abbrev pub tmmrOf : Master → ℕ → Bool → Bool → Bool → Bool → ℕ
 tmmrOf m output master opened inputReady outputReady =
     output
-    + bit master * 2 ^ 8
-    + bit (m .secondary) * 2 ^ 9
-    + bit (m .nowMaster) * 2 ^ 10
-    + bit opened * 2 ^ 11
-    + bit (m .autoAddress) * 2 ^ 12
-    + bit inputReady * 2 ^ 14
-    + bit outputReady * 2 ^ 15
+    + setAt TMMR.MASTER master
+    + setAt TMMR.SEC (m .secondary)
+    + setAt TMMR.NOW-MST (m .nowMaster)
+    + setAt TMMR.CHN-OPN opened
+    + setAt TMMR.AUT-ADR (m .autoAddress)
+    + setAt TMMR.AIP-RDY inputReady
+    + setAt TMMR.AOP-RDY outputReady
 
--- "shows the oldest address, or 0"; AIP RDY: an address would be taken now; AOP RDY: at least one is held
+-- "shows the oldest address, or 0"; AIP RDY: an address would be taken now; AOP RDY: at least one is held, in either mode (reading 3)
 abbrev pub tmmrWord : Master → Mastership → Bool → Bool → ℕ
 tmmrWord m mastership opened reading =
     tmmrOf m (address (oldest (m .addresses))) (hasMaster mastership) opened (takesAddress m reading) (not (isEmpty (m .addresses)))
@@ -37,14 +36,6 @@ tmmrWord m mastership opened reading =
 abbrev pub removed : Master → Bool → Master
 removed m reading = pick (reading && m .autoAddress) (withAddresses m (taken (m .addresses))) m
 
--- what stood before the removal is shown
+-- what stood before the removal is shown (reading 9)
 abbrev pub readOf : Master → Mastership → Bool → Bool → Reading
 readOf m mastership opened reading = record { word = tmmrWord m mastership opened reading; side = removed m reading }
-
--- ---- laws: the register is a word
-
-pub tmmr-lt : (m : Master) (output : ℕ) (master opened inputReady outputReady : Bool) → output < 32
-    → tmmrOf m output master opened inputReady outputReady < 65536
-tmmr-lt m output master opened inputReady outputReady fits =
-    omega
-    (arith, bit-lt master, bit-lt (m .secondary), bit-lt (m .nowMaster), bit-lt opened, bit-lt (m .autoAddress), bit-lt inputReady, bit-lt outputReady)

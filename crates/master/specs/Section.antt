@@ -1,4 +1,4 @@
--- Document 01, The master section, sentence by sentence.
+-- Document 01, The master section, sentence by sentence. Clearing AUT ADR is in `Ring` and `Writing`.
 -- Assumes nothing.
 use mathlib.Core.Bool.{Bool, true, false, not, _&&_}
 use Prim.Native.Nat.{ℕ, _-_}
@@ -33,21 +33,24 @@ masterWritten Other bit = Other
 abbrev pub countedDown : ℕ → ℕ → ℕ
 countedDown place switch = pick (leb place 1) switch (place - 1)
 
--- "it restarts when MASTER or AUT ADR goes from clear to set"
+-- "it restarts when MASTER or AUT ADR goes from clear to set": a bit that stays set does not rise (reading 21)
 abbrev pub rises : Bool → Bool → Bool
 rises before after = not before && after
 
--- "Then each slice takes the oldest address and returns it to the end." An empty silo stays as it is.
+-- "Then each slice takes the oldest address and returns it to the end." An empty silo stays as it is. (docs/DECISIONS.md, "An address
+-- that goes round is stored mod 32")
 abbrev pub returned : Silo → Silo
 returned silo = pick (isEmpty silo) silo (put 50 (taken silo) (address (oldest silo)))
 
--- the address of a slice, and the master after it
+-- the address of a slice, which may be 0 or one that no transmitter has (reading 19), and the master after it: only the master's counter
+-- or silo steps, and only in a slice answered 0 (reading 20)
 abbrev pub nextOf : Master → Next
 nextOf m =
     pick (m .autoAddress) (record { address = m .place; side = withPlace m (countedDown (m .place) (m .switch)) })
     (record { address = address (oldest (m .addresses)); side = withAddresses m (returned (m .addresses)) })
 
--- "the lowest unit with SEC takes MASTER and NOW MST and loses SEC"; its counter restarts, as MASTER is now set
+-- "the lowest unit with SEC takes MASTER and NOW MST and loses SEC"; its counter restarts, as MASTER is now set (reading 21), and it serves
+-- from the next slice on (reading 20)
 abbrev pub takenOver : Master → Master
 takenOver m =
     record { addresses = m .addresses; autoAddress = m .autoAddress; secondary = false; nowMaster = true; place = m .switch; switch = m .switch }

@@ -1,8 +1,9 @@
 -- The record of a master section: the values it may take, and its initial state.
 -- Assumes nothing.
 use mathlib.Core.Bool.{true, false}
-use Prim.Native.Nat.{ℕ, _<_}
-use Rattle.silos.specs.Silo.{Sized, noWords}
+use mathlib.Core.Path.{_≡_}
+use Prim.Native.Nat.{ℕ, _≤_, _<_}
+use Rattle.silos.specs.Silo.{Sized, noWords, isEmpty}
 use Rattle.silos.specs.declared.Silo.{Silo}
 use Rattle.master.specs.declared.side.Master.{Master}
 
@@ -11,6 +12,15 @@ pub record Within (m : Master) : Type 0 where
   pub silo : Sized 50 (m .addresses)
   pub place : m .place < 32
   pub switch : m .switch < 32
+
+-- the counter stands between 1 and the switch (docs/DECISIONS.md, "The counter stays between 1 and the switch")
+pub record Counting (m : Master) : Type 0 where
+  pub least : 1 ≤ m .place
+  pub most : m .place ≤ m .switch
+
+-- "An empty address silo sets AUT ADR at once.": where AUT ADR is clear, an address is held
+pub record AddressHeld (m : Master) : Type 0 where
+  pub some : m .autoAddress ≡ false → isEmpty (m .addresses) ≡ false
 
 -- "Fit gives every side its initial state": the counter stands at the switch
 abbrev pub initial : ℕ → Master

@@ -7,6 +7,9 @@ use crate::side::Mastership;
 use silos::ADDRESSES;
 use silos::Silo;
 use words::answers::Write;
+use words::bits::bit_at;
+use words::bits::set_at;
+use words::bits::tmmr;
 ghost use mathlib.Core.Path.{_≡_};
 ghost use Prim.Native.Nat.{_<_};
 ghost use Rattle.silos.specs.Silo.{Sized};
@@ -73,18 +76,17 @@ fn find_place(m: Master, restarts: bool) -> u16
     m.place
 }
 
-// The high byte: CLR ADR, then AUT ADR; MASTER, SEC and NOW MST.
-fn write_flags(m: Master, mastership: Mastership, byte: u16) -> High
+// The high byte, by its bits in the word: CLR ADR, then AUT ADR; MASTER, SEC and NOW MST.
+fn write_flags(m: Master, mastership: Mastership, word: u16) -> High
     requires { ⌜ Within m ⌝ }
-    ensures { λ r. ⌜ r ≡ highWritten m mastership byte ⌝ }
+    ensures { λ r. ⌜ r ≡ highWritten m mastership word ⌝ }
 {
-    let clear = byte / 32 % 2 == 1;
-    let wanted = byte / 16 % 2 == 1;
-    let addresses = find_silo(m.addresses, clear);
+    let wanted = bit_at(word, tmmr::AUT_ADR);
+    let addresses = find_silo(m.addresses, bit_at(word, tmmr::CLR_ADR));
     let found = addresses.is_empty() | m.autoAddress;
     let refused = is_refused(addresses, found & !wanted);
     let autoAddress = wanted | refused;
-    let after = write_master(mastership, byte % 2 == 1);
+    let after = write_master(mastership, bit_at(word, tmmr::MASTER));
     let had = has_master(mastership);
     let has = has_master(after);
     let masterRises = !had & has;
@@ -96,8 +98,8 @@ fn write_flags(m: Master, mastership: Mastership, byte: u16) -> High
         side: Master {
             addresses,
             autoAddress,
-            secondary: byte / 2 % 2 == 1,
-            nowMaster: byte / 4 % 2 == 1,
+            secondary: bit_at(word, tmmr::SEC),
+            nowMaster: bit_at(word, tmmr::NOW_MST),
             place,
             switch: m.switch,
         },
@@ -150,7 +152,7 @@ impl Master {
         requires { ⌜ Within self ⌝ }
         ensures { λ r. ⌜ r ≡ wordWritten self mastership reading word ⌝ }
     {
-        let high = write_flags(self, mastership, word / 256);
+        let high = write_flags(self, mastership, word);
         let refused = high.refused;
         let after = high.mastership;
         let low = load(high.side, reading, word % 256);
@@ -166,7 +168,7 @@ impl Master {
         requires { ⌜ Within self ⌝ }
         ensures { λ r. ⌜ r ≡ highByteWritten self mastership byte ⌝ }
     {
-        let high = write_flags(self, mastership, byte as u16);
+        let high = write_flags(self, mastership, byte as u16 * 256);
         let after = high.mastership;
         let side = high.side;
         Written {
@@ -191,8 +193,7 @@ impl Master {
 
 // ---- reading
 
-// Each part of the sum fits since the whole does: that is why this asks for the whole. The flags are taken out first, since a
-// cast of a field would carry what is known of the whole record along.
+// Each part of the sum fits since the whole does: that is why this asks for the whole.
 fn tmmr_sum(
     m: Master,
     address: u16,
@@ -204,17 +205,14 @@ fn tmmr_sum(
     requires { ⌜ tmmrOf m address master opened inputReady outputReady < 65536 ⌝ }
     ensures { λ r. ⌜ r ≡ tmmrOf m address master opened inputReady outputReady ⌝ }
 {
-    let secondary = m.secondary;
-    let nowMaster = m.nowMaster;
-    let autoAddress = m.autoAddress;
     address
-        + master as u16 * 256
-        + secondary as u16 * 512
-        + nowMaster as u16 * 1024
-        + opened as u16 * 2048
-        + autoAddress as u16 * 4096
-        + inputReady as u16 * 16384
-        + outputReady as u16 * 32768
+        + set_at(tmmr::MASTER, master)
+        + set_at(tmmr::SEC, m.secondary)
+        + set_at(tmmr::NOW_MST, m.nowMaster)
+        + set_at(tmmr::CHN_OPN, opened)
+        + set_at(tmmr::AUT_ADR, m.autoAddress)
+        + set_at(tmmr::AIP_RDY, inputReady)
+        + set_at(tmmr::AOP_RDY, outputReady)
 }
 
 fn tmmr_word(m: Master, mastership: Mastership, opened: bool, reading: bool) -> u16

@@ -1,10 +1,6 @@
 // The interrupt levels of a fitted unit's sides. Nothing changes.
-use cells::layout::BLOCK;
-use cells::layout::HEADER;
-use cells::layout::RECEIVER;
-use cells::layout::TRANSMITTER;
-use codec::receivers::load_receiver;
-use codec::transmitters::load_transmitter;
+use cells::sides::load_receiver;
+use cells::sides::load_transmitter;
 ghost use mathlib.Core.Path.{_≡_};
 ghost use Rattle.cells.specs.Fitted.{Fitted, transmitterOf, receiverOf};
 ghost use Rattle.receiver.specs.Requests as R;
@@ -14,12 +10,12 @@ pub fn transmitter_level(cells: &[u16], unit: usize) -> bool
     requires { ⌜ Fitted (now cells) unit ⌝ }
     ensures { λ r. ⌜ r ≡ T.levelOf (transmitterOf (now (cells .entry)) unit) ⌝ }
 {
-    transmitter::requests::level(load_transmitter(cells, HEADER + unit * BLOCK + TRANSMITTER))
+    transmitter::requests::level(load_transmitter(cells, unit))
 }
 
 pub fn receiver_level(cells: &[u16], unit: usize) -> bool
     requires { ⌜ Fitted (now cells) unit ⌝ }
     ensures { λ r. ⌜ r ≡ R.levelOf (receiverOf (now (cells .entry)) unit) ⌝ }
 {
-    receiver::requests::level(load_receiver(cells, HEADER + unit * BLOCK + RECEIVER))
+    receiver::requests::level(load_receiver(cells, unit))
 }

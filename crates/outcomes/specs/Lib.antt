@@ -1,5 +1,5 @@
 pub mod Frames
-pub mod One
 pub mod Ranges
-pub mod RefusedSides
 pub mod Refusals
+pub mod Unchanged
+pub mod laws

@@ -16,9 +16,13 @@ use Rattle.pcl.specs.declared.answers.ReadCall.{ReadCall}
 use Rattle.pcl.specs.declared.answers.UnitCall.{UnitCall}
 use Rattle.pcl.specs.declared.answers.WriteCall.{WriteCall}
 
--- a call at a unit: 9 where the lent state is out of range, 1 where the unit is not fitted, both leaving every cell
+-- before all else at a unit: 9 where the lent state is out of range, 1 where the unit is not fitted
+abbrev pub admitted : {A : Type 0} → List ℕ → ℕ → A → A → A → A
+admitted cells unit badState noUnit rest = pick (not (inRange cells)) badState (pick (leb (countIn cells) unit) noUnit rest)
+
+-- a call at a unit: both leave every cell
 abbrev pub atUnit : {A : Type 0} → List ℕ → ℕ → A → A → A × List ℕ → A × List ℕ
-atUnit cells unit badState noUnit rest = pick (not (inRange cells)) (badState, cells) (pick (leb (countIn cells) unit) (noUnit, cells) rest)
+atUnit cells unit badState noUnit rest = admitted cells unit (badState, cells) (noUnit, cells) rest
 
 abbrev pub readBy : Read × List ℕ → ReadCall × List ℕ
 readBy p = (ReadCall.Register (p .0), p .1)

@@ -6,12 +6,7 @@ use Rattle.pcl.specs.Calls.{readCall, writeCall, byteCall, resetCall, pe
 use Rattle.pcl.specs.Link.{fitCall, sliceCall}
 use Rattle.pcl.specs.Numbers.{readPacked, writeCallNumber, doneNumber, fitNumber, slicePacked, moveCallNumber, levelPacked}
 use Rattle.pcl.specs.Sides.{moveCall, levelCall}
-use Rattle.pcl.specs.declared.answers.FitCall.{FitCall}
 use Rattle.pcl.specs.declared.answers.MoveCall.{MoveCall}
-use Rattle.pcl.specs.declared.answers.ReadCall.{ReadCall}
-use Rattle.pcl.specs.declared.answers.SliceCall.{SliceCall}
-use Rattle.pcl.specs.declared.answers.UnitCall.{UnitCall}
-use Rattle.pcl.specs.declared.answers.WriteCall.{WriteCall}
 
 abbrev pub packed : {A : Type 0} → (A → ℕ) → A × List ℕ → ℕ × List ℕ
 packed number p = (number (p .0), p .1)

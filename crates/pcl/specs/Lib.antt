@@ -1,6 +1,9 @@
-pub mod Bounds
 pub mod Calls
+pub mod Contracts
 pub mod Face
 pub mod Link
 pub mod Numbers
+pub mod One
+pub mod Room
 pub mod Sides
+pub mod laws

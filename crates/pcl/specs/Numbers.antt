@@ -1,12 +1,11 @@
--- Document 01, Numbers: the number of each call's answer, and its value 65,536 times over it.
+-- Document 01, Numbers: the number of each call's answer, and its value. C gets one number, the value 65,536 times over the number
+-- (docs/DECISIONS.md, "What C gets").
 -- Assumes nothing.
-use mathlib.Core.Bool.{Bool}
-use Prim.Native.Nat.{ℕ, _+_, _*_, _<_}
+use Prim.Native.Nat.{ℕ, _+_, _*_, _/_, _%_}
 use Rattle.bus.specs.declared.slice.Given.{Given}
 use Rattle.bus.specs.declared.slice.Slot.{Slot}
 use Rattle.laws.specs.Bits.{bit}
 use Rattle.words.specs.Answers.{readNumber, readWord, writeNumber, moveNumber}
-use Rattle.words.specs.declared.answers.Read.{Read}
 use Rattle.pcl.specs.declared.answers.FitCall.{FitCall}
 use Rattle.pcl.specs.declared.answers.LevelCall.{LevelCall}
 use Rattle.pcl.specs.declared.answers.MoveCall.{MoveCall}
@@ -25,9 +24,6 @@ abbrev pub readCallWord : ReadCall → ℕ
 readCallWord ReadCall.BadState = 0
 readCallWord ReadCall.NoUnit = 0
 readCallWord (ReadCall.Register r) = readWord r
-
-abbrev pub foundPacked : Read → ℕ
-foundPacked r = readNumber r + readWord r * 65536
 
 abbrev pub readPacked : ReadCall → ℕ
 readPacked c = readCallNumber c + readCallWord c * 65536
@@ -90,24 +86,15 @@ sliceValue SliceCall.BadState = 0
 sliceValue SliceCall.BadMask = 0
 sliceValue (SliceCall.Passed s) = slotValue s
 
-abbrev pub givenPacked : Given → ℕ
-givenPacked g = givenValue g * 65536
+-- and back: the address, A and B that a slice's value has
+abbrev pub addressOf : ℕ → ℕ
+addressOf value = value % 32
 
-abbrev pub slotPacked : Slot → ℕ
-slotPacked s = slotNumber s + slotValue s * 65536
+abbrev pub aOf : ℕ → ℕ
+aOf value = value / 32 % 4
+
+abbrev pub bOf : ℕ → ℕ
+bOf value = value / 128 % 4
 
 abbrev pub slicePacked : SliceCall → ℕ
 slicePacked c = sliceNumber c + sliceValue c * 65536
-
--- in which they fit; `Bounds` shows that every slice's do
-abbrev pub Narrow : Given → Type 0
-Narrow g = (g .address < 32) × (g .codes .a < 4) × (g .codes .b < 4)
-
-abbrev pub NarrowSlot : Slot → Type 0
-NarrowSlot Slot.NoMaster = Unit {0}
-NarrowSlot (Slot.Given g) = Narrow g
-
-abbrev pub NarrowCall : SliceCall → Type 0
-NarrowCall SliceCall.BadState = Unit {0}
-NarrowCall SliceCall.BadMask = Unit {0}
-NarrowCall (SliceCall.Passed s) = NarrowSlot s

@@ -1,18 +1,17 @@
 -- The calls at one side of a unit, "side neither 0 nor 1" being number 1: 0 transmits, 1 receives.
 -- Assumes nothing.
-use mathlib.Core.Bool.{not}
 use mathlib.Core.List.{List}
 use Prim.Native.Nat.{ℕ}
-use lib.Dec.{leb, ltb, eqb}
+use lib.Dec.{ltb, eqb}
 use lib.ListN.{length}
 use Rattle.cells.specs.Fitted.{transmitterOf, receiverOf}
-use Rattle.cells.specs.Layout.{countIn, memoryLength}
-use Rattle.cells.specs.Ranges.{inRange}
+use Rattle.cells.specs.Layout.{memoryLength}
 use Rattle.laws.specs.Pick.{pick}
 use Rattle.moves.specs.Moving.{transmitterMoved, receiverMoved}
 use Rattle.receiver.specs.Requests as R
 use Rattle.transmitter.specs.Requests as T
 use Rattle.words.specs.declared.answers.Move.{Move}
+use Rattle.pcl.specs.Calls.{admitted}
 use Rattle.pcl.specs.declared.answers.LevelCall.{LevelCall}
 use Rattle.pcl.specs.declared.answers.MoveCall.{MoveCall}
 
@@ -27,17 +26,21 @@ sentBy memory p = (MoveCall.Side (p .0), p .1, memory)
 abbrev pub receivedBy : Move × List ℕ × List ℕ → MoveCall × List ℕ × List ℕ
 receivedBy p = (MoveCall.Side (p .0), p .1, p .2)
 
--- 9 "lent room too small; .. a lent state outside the ranges": a unit that is not fitted asks for no memory
+-- 9 "lent room too small": the lent memory has the fitted length of the unit that is named, or more; only the words below that length are
+-- the memory, and a unit that is not fitted asks for none (reading 33)
+abbrev pub fittedMove : List ℕ → List ℕ → ℕ → ℕ → MoveCall × List ℕ × List ℕ
+fittedMove cells memory unit side =
+    pick (ltb (length memory) (memoryLength cells unit)) (MoveCall.BadState, cells, memory)
+    (atSide side (sentBy memory (transmitterMoved cells memory unit)) (receivedBy (receiverMoved cells memory unit)) (MoveCall.NoUnit, cells, memory))
+
 abbrev pub moveCall : List ℕ → List ℕ → ℕ → ℕ → MoveCall × List ℕ × List ℕ
 moveCall cells memory unit side =
-    pick (not (inRange cells)) (MoveCall.BadState, cells, memory)
-    (pick (leb (countIn cells) unit) (MoveCall.NoUnit, cells, memory)
-    (pick (ltb (length memory) (memoryLength cells unit)) (MoveCall.BadState, cells, memory)
-    (atSide side (sentBy memory (transmitterMoved cells memory unit)) (receivedBy (receiverMoved cells memory unit)) (MoveCall.NoUnit, cells, memory))))
+    admitted cells unit (MoveCall.BadState, cells, memory) (MoveCall.NoUnit, cells, memory) (fittedMove cells memory unit side)
 
 -- interrupt level (unit, side): it changes nothing
+abbrev pub fittedLevel : List ℕ → ℕ → ℕ → LevelCall
+fittedLevel cells unit side =
+    atSide side (LevelCall.Level (T.levelOf (transmitterOf cells unit))) (LevelCall.Level (R.levelOf (receiverOf cells unit))) LevelCall.NoUnit
+
 abbrev pub levelCall : List ℕ → ℕ → ℕ → LevelCall
-levelCall cells unit side =
-    pick (not (inRange cells)) LevelCall.BadState
-    (pick (leb (countIn cells) unit) LevelCall.NoUnit
-    (atSide side (LevelCall.Level (T.levelOf (transmitterOf cells unit))) (LevelCall.Level (R.levelOf (receiverOf cells unit))) LevelCall.NoUnit))
+levelCall cells unit side = admitted cells unit LevelCall.BadState LevelCall.NoUnit (fittedLevel cells unit side)

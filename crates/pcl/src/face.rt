@@ -15,70 +15,67 @@ use crate::packing::pack_slice;
 use crate::packing::pack_write;
 use crate::sides::level;
 use crate::sides::move_word;
-ghost use mathlib.Core.Path.{_≡_};
-ghost use mathlib.Core.List.{List};
-ghost use Prim.Native.Nat.{ℕ};
-ghost use Rattle.pcl.specs.Face.{readFace, writeFace, byteFace, resetFace, periodFace, fitFace, sliceFace, moveFace, levelFace};
+ghost use Rattle.pcl.specs.Contracts.{FitFaceOutcome, ReadFaceOutcome, WriteFaceOutcome, ByteFaceOutcome, ResetFaceOutcome, SliceFaceOutcome, MoveFaceOutcome, PeriodFaceOutcome, LevelFaceOutcome};
 
 #[no_mangle]
 pub extern "C" fn pcl_fit(cells: &mut [u16], setup: &[u32]) -> u32
-    ensures { λ r. ⌜ _≡_ {A = ℕ × List ℕ} (r, now (cells .exit)) (fitFace (now (cells .entry)) (now (setup .entry))) ⌝ }
+    ensures { λ r. ⌜ FitFaceOutcome (now (cells .entry)) (now (setup .entry)) (r, now (cells .exit)) ⌝ }
 {
     pack_fit(fit(cells, setup))
 }
 
 #[no_mangle]
 pub extern "C" fn pcl_read(cells: &mut [u16], unit: u32, offset: u32) -> u32
-    ensures { λ r. ⌜ _≡_ {A = ℕ × List ℕ} (r, now (cells .exit)) (readFace (now (cells .entry)) unit offset) ⌝ }
+    ensures { λ r. ⌜ ReadFaceOutcome (now (cells .entry)) unit offset (r, now (cells .exit)) ⌝ }
 {
     pack_read(read(cells, unit, offset))
 }
 
 #[no_mangle]
 pub extern "C" fn pcl_write(cells: &mut [u16], unit: u32, offset: u32, word: u16) -> u32
-    ensures { λ r. ⌜ _≡_ {A = ℕ × List ℕ} (r, now (cells .exit)) (writeFace (now (cells .entry)) unit offset word) ⌝ }
+    ensures { λ r. ⌜ WriteFaceOutcome (now (cells .entry)) unit offset word (r, now (cells .exit)) ⌝ }
 {
     pack_write(write(cells, unit, offset, word))
 }
 
 #[no_mangle]
 pub extern "C" fn pcl_write_byte(cells: &mut [u16], unit: u32, offset: u32, byte: u8) -> u32
-    ensures { λ r. ⌜ _≡_ {A = ℕ × List ℕ} (r, now (cells .exit)) (byteFace (now (cells .entry)) unit offset byte) ⌝ }
+    ensures { λ r. ⌜ ByteFaceOutcome (now (cells .entry)) unit offset byte (r, now (cells .exit)) ⌝ }
 {
     pack_write(write_byte(cells, unit, offset, byte))
 }
 
 #[no_mangle]
 pub extern "C" fn pcl_reset(cells: &mut [u16], unit: u32) -> u32
-    ensures { λ r. ⌜ _≡_ {A = ℕ × List ℕ} (r, now (cells .exit)) (resetFace (now (cells .entry)) unit) ⌝ }
+    ensures { λ r. ⌜ ResetFaceOutcome (now (cells .entry)) unit (r, now (cells .exit)) ⌝ }
 {
     pack_done(reset(cells, unit))
 }
 
 #[no_mangle]
 pub extern "C" fn pcl_slice(cells: &mut [u16], mask: u16, parity: u32) -> u32
-    ensures { λ r. ⌜ _≡_ {A = ℕ × List ℕ} (r, now (cells .exit)) (sliceFace (now (cells .entry)) mask parity) ⌝ }
+    ensures { λ r. ⌜ SliceFaceOutcome (now (cells .entry)) mask parity (r, now (cells .exit)) ⌝ }
 {
     pack_slice(slice(cells, mask, parity))
 }
 
 #[no_mangle]
 pub extern "C" fn pcl_move(cells: &mut [u16], memory: &mut [u16], unit: u32, side: u32) -> u32
-    ensures { λ r. ⌜ _≡_ {A = ℕ × List ℕ × List ℕ} (r, now (cells .exit), now (memory .exit)) (moveFace (now (cells .entry)) (now (memory .entry)) unit side) ⌝ }
+    ensures { λ r. ⌜ MoveFaceOutcome (now (cells .entry)) (now (memory .entry)) unit side (r, now (cells .exit), now (memory .exit)) ⌝ }
 {
     pack_move(move_word(cells, memory, unit, side))
 }
 
 #[no_mangle]
 pub extern "C" fn pcl_period(cells: &mut [u16], unit: u32) -> u32
-    ensures { λ r. ⌜ _≡_ {A = ℕ × List ℕ} (r, now (cells .exit)) (periodFace (now (cells .entry)) unit) ⌝ }
+    ensures { λ r. ⌜ PeriodFaceOutcome (now (cells .entry)) unit (r, now (cells .exit)) ⌝ }
 {
     pack_done(pass_period(cells, unit))
 }
 
 #[no_mangle]
 pub extern "C" fn pcl_level(cells: &[u16], unit: u32, side: u32) -> u32
-    ensures { λ r. ⌜ r ≡ levelFace (now (cells .entry)) unit side ⌝ }
+    ensures { λ r. ⌜ LevelFaceOutcome (now (cells .entry)) unit side r ⌝ }
 {
     pack_level(level(cells, unit, side))
 }

@@ -10,11 +10,10 @@ use fitting::fit::fit_link;
 use fitting::setup::NUMBERS;
 use fitting::setup::is_good;
 ghost use mathlib.Core.Path.{_≡_};
-ghost use mathlib.Core.List.{List};
-ghost use Prim.Native.Nat.{ℕ, _≤_};
-ghost use Rattle.pcl.specs.Link.{roomFor, fitCall, sliceCall};
+ghost use Rattle.pcl.specs.Contracts.{FitOutcome, SliceOutcome};
+ghost use Rattle.pcl.specs.Link.{roomFor};
 
-// The room asked counts at most 16 units.
+// The room asked counts at most 16 units (reading 32).
 fn room_for(count: usize) -> usize
     ensures { λ r. ⌜ r ≡ roomFor count ⌝ }
 {
@@ -25,7 +24,7 @@ fn room_for(count: usize) -> usize
 }
 
 pub fn fit(cells: &mut [u16], setup: &[u32]) -> FitCall
-    ensures { λ r. ⌜ _≡_ {A = FitCall × List ℕ} (r, now (cells .exit)) (fitCall (now (cells .entry)) (now (setup .entry))) ⌝ }
+    ensures { λ r. ⌜ FitOutcome (now (cells .entry)) (now (setup .entry)) (r, now (cells .exit)) ⌝ }
 {
     if cells.len() < room_for(setup.len() / NUMBERS) {
         return FitCall::NoRoom;
@@ -38,7 +37,7 @@ pub fn fit(cells: &mut [u16], setup: &[u32]) -> FitCall
 }
 
 pub fn slice(cells: &mut [u16], mask: u16, parity: u32) -> SliceCall
-    ensures { λ r. ⌜ _≡_ {A = SliceCall × List ℕ} (r, now (cells .exit)) (sliceCall (now (cells .entry)) mask parity) ⌝ }
+    ensures { λ r. ⌜ SliceOutcome (now (cells .entry)) mask parity (r, now (cells .exit)) ⌝ }
 {
     if !in_range(cells) {
         return SliceCall::BadState;

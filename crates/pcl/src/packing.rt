@@ -12,7 +12,9 @@ use words::answers::Move;
 use words::answers::Read;
 use words::answers::Write;
 ghost use mathlib.Core.Path.{_≡_};
-ghost use Rattle.pcl.specs.Numbers.{foundPacked, readPacked, writeCallNumber, doneNumber, fitNumber, moveCallNumber, levelPacked, givenPacked, Narrow, slotPacked, NarrowSlot, slicePacked, NarrowCall};
+ghost use Rattle.pcl.specs.Numbers.{readPacked, writeCallNumber, doneNumber, fitNumber, moveCallNumber, levelPacked, slicePacked};
+ghost use Rattle.pcl.specs.laws.Narrow.{Narrow, NarrowSlot, NarrowCall};
+ghost use Rattle.pcl.specs.laws.Packed.{foundPacked, givenPacked, slotPacked};
 ghost use Rattle.words.specs.Answers.{writeNumber, moveNumber};
 
 fn pack_found(read: Read) -> u32

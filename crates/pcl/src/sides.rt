@@ -1,56 +1,68 @@
 // The calls at one side of a unit: 0 its transmitter, 1 its receiver.
 use crate::answers::LevelCall;
 use crate::answers::MoveCall;
-use cells::ranges::in_range;
-use cells::units::count;
+use crate::units::Admission;
+use crate::units::admit;
 use cells::units::memory_length;
 use moves::levels::receiver_level;
 use moves::levels::transmitter_level;
 use moves::moving::move_receiver;
 use moves::moving::move_transmitter;
+ghost use mathlib.Core.Bool.{true};
 ghost use mathlib.Core.Path.{_≡_};
 ghost use mathlib.Core.List.{List};
-ghost use Prim.Native.Nat.{ℕ};
-ghost use Rattle.pcl.specs.Sides.{moveCall, levelCall};
+ghost use Prim.Native.Nat.{ℕ, _<_};
+ghost use Rattle.cells.specs.Fitted.{Fitted};
+ghost use Rattle.cells.specs.Layout.{countIn};
+ghost use Rattle.cells.specs.Ranges.{inRange};
+ghost use Rattle.pcl.specs.Contracts.{MoveOutcome, LevelOutcome};
+ghost use Rattle.pcl.specs.Sides.{fittedMove, fittedLevel};
+
+// The lent memory has to have the unit's fitted length.
+fn move_fitted(cells: &mut [u16], memory: &mut [u16], unit: usize, side: u32) -> MoveCall
+    requires { ⌜ (inRange (now cells) ≡ true) × (unit < countIn (now cells)) × Fitted (now cells) unit ⌝ }
+    ensures { λ r. ⌜ _≡_ {A = MoveCall × List ℕ × List ℕ} (r, now (cells .exit), now (memory .exit)) (fittedMove (now (cells .entry)) (now (memory .entry)) unit side) ⌝ }
+{
+    if memory.len() < memory_length(cells, unit) {
+        return MoveCall::BadState;
+    }
+    match side {
+        0 => MoveCall::Side(move_transmitter(cells, memory, unit)),
+        1 => MoveCall::Side(move_receiver(cells, memory, unit)),
+        _ => MoveCall::NoUnit,
+    }
+}
 
 // The memory is that of the unit. A unit that is not fitted asks for none.
 pub fn move_word(cells: &mut [u16], memory: &mut [u16], unit: u32, side: u32) -> MoveCall
-    ensures { λ r. ⌜ _≡_ {A = MoveCall × List ℕ × List ℕ} (r, now (cells .exit), now (memory .exit)) (moveCall (now (cells .entry)) (now (memory .entry)) unit side) ⌝ }
+    ensures { λ r. ⌜ MoveOutcome (now (cells .entry)) (now (memory .entry)) unit side (r, now (cells .exit), now (memory .exit)) ⌝ }
 {
-    if !in_range(cells) {
-        return MoveCall::BadState;
+    let admission = admit(cells, unit);
+    match admission {
+        Admission::BadState => MoveCall::BadState,
+        Admission::NoUnit => MoveCall::NoUnit,
+        Admission::Fitted => move_fitted(cells, memory, unit as usize, side),
     }
-    let number = unit as usize;
-    if number >= count(cells) {
-        return MoveCall::NoUnit;
+}
+
+fn level_fitted(cells: &[u16], unit: usize, side: u32) -> LevelCall
+    requires { ⌜ Fitted (now cells) unit ⌝ }
+    ensures { λ r. ⌜ r ≡ fittedLevel (now (cells .entry)) unit side ⌝ }
+{
+    match side {
+        0 => LevelCall::Level(transmitter_level(cells, unit)),
+        1 => LevelCall::Level(receiver_level(cells, unit)),
+        _ => LevelCall::NoUnit,
     }
-    if memory.len() < memory_length(cells, number) {
-        return MoveCall::BadState;
-    }
-    if side == 0 {
-        return MoveCall::Side(move_transmitter(cells, memory, number));
-    }
-    if side == 1 {
-        return MoveCall::Side(move_receiver(cells, memory, number));
-    }
-    MoveCall::NoUnit
 }
 
 pub fn level(cells: &[u16], unit: u32, side: u32) -> LevelCall
-    ensures { λ r. ⌜ r ≡ levelCall (now (cells .entry)) unit side ⌝ }
+    ensures { λ r. ⌜ LevelOutcome (now (cells .entry)) unit side r ⌝ }
 {
-    if !in_range(cells) {
-        return LevelCall::BadState;
+    let admission = admit(cells, unit);
+    match admission {
+        Admission::BadState => LevelCall::BadState,
+        Admission::NoUnit => LevelCall::NoUnit,
+        Admission::Fitted => level_fitted(cells, unit as usize, side),
     }
-    let number = unit as usize;
-    if number >= count(cells) {
-        return LevelCall::NoUnit;
-    }
-    if side == 0 {
-        return LevelCall::Level(transmitter_level(cells, number));
-    }
-    if side == 1 {
-        return LevelCall::Level(receiver_level(cells, number));
-    }
-    LevelCall::NoUnit
 }

@@ -2,44 +2,19 @@
 -- other call, the order of the moves, and the calls that are refused.
 -- Assumes nothing.
 use mathlib.Core.Bool.{false}
+use mathlib.Core.List.{List, [], _∷_}
 use mathlib.Core.Logic.{_⊎_}
 use mathlib.Core.Path.{_≡_}
 use Prim.Native.Nat.{ℕ, _+_, _^_, _<_}
-use lib.Dec.{eqb}
 use lib.ListN.{length, getD}
-use Rattle.bus.specs.declared.slice.Slot.{Slot}
 use Rattle.delivery.specs.Ends.{Message}
-use Rattle.delivery.specs.Events.{Kind, own, other, quiet}
-use Rattle.laws.specs.Pick.{pick}
-use Rattle.outcomes.specs.RefusedSides.{leavesAll}
-use Rattle.pcl.specs.Link.{sliceCall}
-use Rattle.pcl.specs.declared.answers.SliceCall.{SliceCall}
+use Rattle.outcomes.specs.Unchanged.{leavesAll}
 use Rattle.transmitter_registers.specs.Writing.{initialises}
+use Rattle.promise.specs.Kinds.{kindOf, own}
 use Rattle.promise.specs.Opening.{Parties}
 use Rattle.promise.specs.World.{World, Event, fit, write, writeByte, read, slice, move, period, reset, level, hostWrite, step, numberOf}
 
--- ---- the slices: T's own are those answered with its address. "A slice call answered 7 or 9 isn't counted."
-
-abbrev pub slotKind : ℕ → Slot → Kind
-slotKind address Slot.NoMaster = other
-slotKind address (Slot.Given g) = pick (eqb (g .address) address) own other
-
-abbrev pub sliceKind : ℕ → SliceCall → Kind
-sliceKind address SliceCall.BadState = quiet
-sliceKind address SliceCall.BadMask = quiet
-sliceKind address (SliceCall.Passed s) = slotKind address s
-
-abbrev pub kindOf : ℕ → Event → World → Kind
-kindOf address (fit setup) w = quiet
-kindOf address (write unit offset word) w = quiet
-kindOf address (writeByte unit offset byte) w = quiet
-kindOf address (read unit offset) w = quiet
-kindOf address (slice mask parity) w = sliceKind address (sliceCall (w .cells) mask parity .0)
-kindOf address (move unit side) w = quiet
-kindOf address (period unit) w = quiet
-kindOf address (reset unit) w = quiet
-kindOf address (level unit side) w = quiet
-kindOf address (hostWrite unit place word) w = quiet
+-- ---- T's slices
 
 -- "no damage on T's slices; before each of T's slices both ends have moved until 4": one more move of either would answer 4
 pub record OwnSlice (p : Parties) (mask parity : ℕ) (w : World) : Type 0 where
@@ -98,3 +73,8 @@ Permitted p m (hostWrite unit place word) w = HostWrite p m unit place word w
 -- a call whose number says "unchanged" is free: it is a call that is not done
 abbrev pub Allowed : Parties → Message → Event → World → Type 0
 Allowed p m e w = leavesAll (numberOf e w) ≡ false → Permitted p m e w
+
+-- every event of a run is, where it comes
+abbrev pub Conducted : Parties → Message → World → List Event → Type 0
+Conducted p m w [] = Unit {0}
+Conducted p m w (e ∷ es) = Allowed p m e w × Conducted p m (step e w) es

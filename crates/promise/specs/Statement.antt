@@ -4,60 +4,62 @@ use mathlib.Core.List.{List}
 use Prim.Native.Nat.{ℕ, _*_, _≤_, _<_}
 use lib.ListN.{length}
 use Rattle.cells.specs.Fitted.{masterOf}
-use Rattle.delivery.specs.Ends.{contentOf}
-use Rattle.delivery.specs.Events.{owns, slots}
+use Rattle.delivery.specs.Ends.{Message}
 use Rattle.delivery.specs.Outcome.{Delivered, Underway}
-use Rattle.delivery.specs.Runs.{Machine, Conducted, kinds, run}
 use Rattle.master.specs.Cycle.{cycleLength}
 use Rattle.words.specs.Slices.{slicesOf}
-use Rattle.promise.specs.Conditions.{Allowed, kindOf}
-use Rattle.promise.specs.Opening.{Parties, endsOf, messageIn}
-use Rattle.promise.specs.Standing.{Standing}
-use Rattle.promise.specs.World.{World, Event, slice, step}
+use Rattle.promise.specs.Conditions.{Conducted}
+use Rattle.promise.specs.Kinds.{kinds, owns, slots}
+use Rattle.promise.specs.Opening.{Parties, endsOf, messageIn, partiesOf}
+use Rattle.promise.specs.Reports.{Reported, Unreported}
+use Rattle.promise.specs.World.{World, Event, run, slice, step}
 
-module _ (p : Parties) (start : World) where
-  -- the link after the opening: its events, which of them are T's slices, and which are allowed. (`At` is for the proof alone.)
-  abbrev pub link : Machine
-  link =
-      record {
-        S = World;
-        E = Event;
-        act = step;
-        kind = kindOf (messageIn p start .from);
-        Allowed = Allowed p (messageIn p start);
-        At = Standing p start;
-      }
+-- start is the world before the opening slice
+module _ (start : World) where
+  abbrev pub parties : Parties
+  parties = partiesOf start
 
-  -- the world that the opening slice leaves
+  abbrev pub message : Message
+  message = messageIn parties start
+
+  -- the world that the opening slice leaves, and what a run of events leaves of that
   abbrev pub opened : World
   opened = step (slice 0 0) start
 
-  -- the run meets the conditions
-  abbrev pub Meets : List Event → Type 0
-  Meets es = Conducted link opened es
-
   abbrev pub after : List Event → World
-  after es = run link es opened
+  after es = run es opened
+
+  -- the run meets the conditions "After it"
+  abbrev pub Meets : List Event → Type 0
+  Meets es = Conducted parties message opened es
 
   -- T's slices among the events, and all slices
   abbrev pub ownSlices : List Event → ℕ
-  ownSlices es = owns (kinds link opened es)
+  ownSlices es = owns (kinds (message .from) opened es)
 
   abbrev pub allSlices : List Event → ℕ
-  allSlices es = length (slots (kinds link opened es))
+  allSlices es = length (slots (kinds (message .from) opened es))
 
   -- n
   abbrev pub wordsSent : ℕ
-  wordsSent = length (contentOf (endsOf p start))
+  wordsSent = length (message .content)
 
   -- L: "the switch, or the silo's length"
   abbrev pub round : ℕ
-  round = cycleLength (masterOf (start .cells) (p .master))
+  round = cycleLength (masterOf (start .cells) (parties .master))
 
-  -- "A message of n words, once opened under document 01's conditions, succeeds at both ends on exactly its transmitter's slice
-  -- n - 1 + 2 x (n/128 rounded up) after the opening": not before it, and from it on. "The receiving memory then holds exactly those
-  -- words and is otherwise unchanged." It comes within L times as many slices.
+  -- ---- what holds before the success, and from it on: at both ends, and as the hosts see it
+
+  abbrev pub NotYet : World → Type 0
+  NotYet w = Underway (endsOf parties w) × Unreported parties w
+
+  abbrev pub Succeeded : World → Type 0
+  Succeeded w = Delivered message (endsOf parties w) × Reported parties w
+
+  -- Demand 3 (README.md): the message succeeds at both ends on exactly its transmitter's slice n - 1 + 2 x (n/128 rounded up) after the
+  -- opening, not before it and from it on, within L times as many slices; and the receiving memory then holds exactly those words and is
+  -- otherwise unchanged
   pub record Promise (es : List Event) : Type 0 where
-    pub notBefore : ownSlices es < slicesOf wordsSent → Underway (endsOf p (after es))
-    pub fromThen : slicesOf wordsSent ≤ ownSlices es → Delivered (messageIn p start) (endsOf p (after es))
-    pub inTime : round * slicesOf wordsSent ≤ allSlices es → Delivered (messageIn p start) (endsOf p (after es))
+    pub notBefore : ownSlices es < slicesOf wordsSent → NotYet (after es)
+    pub fromThen : slicesOf wordsSent ≤ ownSlices es → Succeeded (after es)
+    pub inTime : round * slicesOf wordsSent ≤ allSlices es → Succeeded (after es)

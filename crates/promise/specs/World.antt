@@ -1,7 +1,7 @@
 -- The world of a run: the lent cells and every unit's memory. An event is a public call with any arguments, or a host's write in a
--- memory; "each call is lent the state and memories the last one left".
+-- memory.
 -- Assumes nothing.
-use mathlib.Core.List.{List}
+use mathlib.Core.List.{List, [], _∷_}
 use Prim.Native.Nat.{ℕ}
 use lib.Dec.{eqb}
 use lib.ListN.{set}
@@ -59,6 +59,11 @@ step (reset unit) w = withCells w (resetCall (w .cells) unit .1)
 step (level unit side) w = w
 step (hostWrite unit place word) w =
     record { cells = w .cells; memory = withMemory (w .memory) unit (set (w .memory unit) place word) }
+
+-- events one after the other: "each call is lent the state and memories the last one left, but for the host's memory writes"
+abbrev pub run : List Event → World → World
+run [] w = w
+run (e ∷ es) w = run es (step e w)
 
 -- ---- the number that a call answers; a host's write answers none, and is done
 

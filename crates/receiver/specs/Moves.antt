@@ -11,60 +11,28 @@ use Rattle.words.specs.Load.{wordMoved}
 use Rattle.words.specs.declared.address.Place.{Place}
 use Rattle.words.specs.declared.answers.Move.{Move}
 use Rattle.words.specs.declared.load.Advance.{Advance}
+use Rattle.receiver.specs.Fields.{withByteCountOverflow, withMemoryOverflow, withNonexistentLocation}
+use Rattle.receiver.specs.Groups.{withSilo, withLoad}
 use Rattle.receiver.specs.Requests.{failed}
-use Rattle.receiver.specs.Side.{hasError, dataOutReady, withSilo, withLoad}
+use Rattle.receiver.specs.Side.{hasError, dataOutReady}
 use Rattle.receiver.specs.declared.moves.Moved.{Moved}
-use Rattle.receiver.specs.declared.side.Faults.{Faults}
 use Rattle.receiver.specs.declared.side.Receiver.{Receiver}
 
 -- "Receiver: RC NPR, a word, no ERR; else 4."
 abbrev pub mayMove : Receiver → Bool
 mayMove r = r .modes .memoryRequests && dataOutReady r && not (hasError r)
 
--- "Not loaded: BC OFL." "A word meeting NXL or BC OFL stays where it was"
-abbrev pub exceeding : Faults → Faults
-exceeding f =
-    record {
-      byteCountOverflow = true;
-      timeOut = f .timeOut;
-      parity = f .parity;
-      transmissionError = f .transmissionError;
-      memoryOverflow = f .memoryOverflow;
-      nonexistentLocation = f .nonexistentLocation;
-    }
-
+-- "Not loaded: BC OFL." "A word meeting NXL or BC OFL stays where it was; these and memory overflow come with number 0."
 abbrev pub exceeded : Receiver → Receiver
-exceeded r = failed r (exceeding (r .faults))
+exceeded r = failed r (withByteCountOverflow (r .faults) true)
 
 -- "Address outside the memory: NXL."
-abbrev pub missing : Faults → Faults
-missing f =
-    record {
-      byteCountOverflow = f .byteCountOverflow;
-      timeOut = f .timeOut;
-      parity = f .parity;
-      transmissionError = f .transmissionError;
-      memoryOverflow = f .memoryOverflow;
-      nonexistentLocation = true;
-    }
-
 abbrev pub nonexistent : Receiver → Receiver
-nonexistent r = failed r (missing (r .faults))
+nonexistent r = failed r (withNonexistentLocation (r .faults) true)
 
--- "An address wrapping past 777776 (octal) sets memory overflow."
-abbrev pub overflowing : Faults → Faults
-overflowing f =
-    record {
-      byteCountOverflow = f .byteCountOverflow;
-      timeOut = f .timeOut;
-      parity = f .parity;
-      transmissionError = f .transmissionError;
-      memoryOverflow = true;
-      nonexistentLocation = f .nonexistentLocation;
-    }
-
+-- "An address wrapping past 777776 (octal) sets memory overflow." The move at 777776 itself is done (reading 30).
 abbrev pub overflowed : Receiver → Receiver
-overflowed r = failed r (overflowing (r .faults))
+overflowed r = failed r (withMemoryOverflow (r .faults) true)
 
 -- "Else alike, storing, but count 0 leaves RC NPR set": "2 added to count and, unless INH ADI, to the address"
 abbrev pub gone : Receiver → Advance → Receiver
@@ -83,12 +51,14 @@ doneWith r = record { side = r; answer = Move.Done }
 abbrev pub wordStored : Receiver → List ℕ → ℕ → Moved × List ℕ
 wordStored r memory at = (doneWith (wordPassed r), set memory at (oldest (r .silo)))
 
--- to the load's address, in a memory of so many words
+-- to the load's address
 abbrev pub movedTo : Receiver → List ℕ → Place → Moved × List ℕ
 movedTo r memory (Place.Inside at) = wordStored r memory at
 movedTo r memory Place.Outside = (doneWith (nonexistent r), memory)
 
+-- with a memory of so many words, which may be lent with more behind it (reading 33). The conditions of 4 go before BC OFL, and BC OFL
+-- before NXL (reading 30).
 abbrev pub moved : Receiver → List ℕ → ℕ → Moved × List ℕ
-moved r memory length =
+moved r memory fitted =
     pick (not (mayMove r)) (record { side = r; answer = Move.Nothing }, memory)
-    (pick (not (r .load .loaded)) (doneWith (exceeded r), memory) (movedTo r memory (placeOf (r .load .address .0) length)))
+    (pick (not (r .load .loaded)) (doneWith (exceeded r), memory) (movedTo r memory (placeOf (r .load .address .0) fitted)))

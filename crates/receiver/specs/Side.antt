@@ -3,11 +3,8 @@
 use mathlib.Core.Bool.{Bool, false, not, _||_}
 use Prim.Native.Nat.{_^_, _≤_, _<_}
 use Rattle.silos.specs.Silo.{Sized, noWords, isEmpty, hasRoom}
-use Rattle.silos.specs.declared.Silo.{Silo}
 use Rattle.words.specs.Codes.{Coded, noCodes}
 use Rattle.words.specs.Load.{Bounded, noLoad}
-use Rattle.words.specs.declared.codes.Codes.{Codes}
-use Rattle.words.specs.declared.load.Load.{Load}
 use Rattle.receiver.specs.declared.side.Channel.{Channel}
 use Rattle.receiver.specs.declared.side.Commands.{Commands}
 use Rattle.receiver.specs.declared.side.Faults.{Faults}
@@ -24,7 +21,7 @@ pub record Within (r : Receiver) : Type 0 where
   pub block : r .channel .block ≤ 128
   pub crc : r .channel .crc < 2 ^ 16
 
--- ---- "Fit gives every side its initial state"
+-- ---- "Fit gives every side its initial state": RC INIT gives the same, with no exception (reading 10)
 
 abbrev pub noCommands : Commands
 noCommands = record { receiveData = false; receiveWord = false }
@@ -66,7 +63,7 @@ initial =
 
 -- ---- computed bits
 
--- BUSY: RCV WD or CHN OPN
+-- BUSY: RCV WD or CHN OPN (reading 5)
 abbrev pub isBusy : Receiver → Bool
 isBusy r = r .commands .receiveWord || r .channel .opened
 
@@ -77,138 +74,10 @@ anyFault f = f .byteCountOverflow || f .timeOut || f .parity || f .transmissionE
 abbrev pub hasError : Receiver → Bool
 hasError r = anyFault (r .faults)
 
--- DTIRDY: the silo has room
+-- DTIRDY: the silo has room (reading 3)
 abbrev pub dataInReady : Receiver → Bool
 dataInReady r = hasRoom 64 (r .silo)
 
--- DTORDY: a word is held
+-- DTORDY: a word is held (reading 3)
 abbrev pub dataOutReady : Receiver → Bool
 dataOutReady r = not (isEmpty (r .silo))
-
--- ---- the record with one group changed
-
-abbrev pub withSilo : Receiver → Silo → Receiver
-withSilo r x =
-    record {
-      silo = x;
-      load = r .load;
-      shown = r .shown;
-      commands = r .commands;
-      modes = r .modes;
-      faults = r .faults;
-      outcome = r .outcome;
-      channel = r .channel;
-      mark = r .mark;
-    }
-
-abbrev pub withLoad : Receiver → Load → Receiver
-withLoad r x =
-    record {
-      silo = r .silo;
-      load = x;
-      shown = r .shown;
-      commands = r .commands;
-      modes = r .modes;
-      faults = r .faults;
-      outcome = r .outcome;
-      channel = r .channel;
-      mark = r .mark;
-    }
-
-abbrev pub withShown : Receiver → Codes → Receiver
-withShown r x =
-    record {
-      silo = r .silo;
-      load = r .load;
-      shown = x;
-      commands = r .commands;
-      modes = r .modes;
-      faults = r .faults;
-      outcome = r .outcome;
-      channel = r .channel;
-      mark = r .mark;
-    }
-
-abbrev pub withCommands : Receiver → Commands → Receiver
-withCommands r x =
-    record {
-      silo = r .silo;
-      load = r .load;
-      shown = r .shown;
-      commands = x;
-      modes = r .modes;
-      faults = r .faults;
-      outcome = r .outcome;
-      channel = r .channel;
-      mark = r .mark;
-    }
-
-abbrev pub withModes : Receiver → Modes → Receiver
-withModes r x =
-    record {
-      silo = r .silo;
-      load = r .load;
-      shown = r .shown;
-      commands = r .commands;
-      modes = x;
-      faults = r .faults;
-      outcome = r .outcome;
-      channel = r .channel;
-      mark = r .mark;
-    }
-
-abbrev pub withFaults : Receiver → Faults → Receiver
-withFaults r x =
-    record {
-      silo = r .silo;
-      load = r .load;
-      shown = r .shown;
-      commands = r .commands;
-      modes = r .modes;
-      faults = x;
-      outcome = r .outcome;
-      channel = r .channel;
-      mark = r .mark;
-    }
-
-abbrev pub withOutcome : Receiver → Outcome → Receiver
-withOutcome r x =
-    record {
-      silo = r .silo;
-      load = r .load;
-      shown = r .shown;
-      commands = r .commands;
-      modes = r .modes;
-      faults = r .faults;
-      outcome = x;
-      channel = r .channel;
-      mark = r .mark;
-    }
-
-abbrev pub withChannel : Receiver → Channel → Receiver
-withChannel r x =
-    record {
-      silo = r .silo;
-      load = r .load;
-      shown = r .shown;
-      commands = r .commands;
-      modes = r .modes;
-      faults = r .faults;
-      outcome = r .outcome;
-      channel = x;
-      mark = r .mark;
-    }
-
-abbrev pub withMark : Receiver → Bool → Receiver
-withMark r x =
-    record {
-      silo = r .silo;
-      load = r .load;
-      shown = r .shown;
-      commands = r .commands;
-      modes = r .modes;
-      faults = r .faults;
-      outcome = r .outcome;
-      channel = r .channel;
-      mark = x;
-    }

@@ -1,4 +1,5 @@
-// A receiver: its record, its requests, its memory moves and its periods.
+// A receiver: its record and its bits in RCR and RSR, its requests, its memory moves and its periods.
+pub mod bits;
 pub mod moves;
 pub mod periods;
 pub mod requests;

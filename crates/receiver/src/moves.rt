@@ -9,7 +9,7 @@ use words::load::Advance;
 ghost use mathlib.Core.Path.{_≡_};
 ghost use mathlib.Core.List.{List};
 ghost use Prim.Native.Nat.{ℕ, _≤_, _<_};
-ghost use lib.ListN.{length, set};
+ghost use lib.ListN.{length};
 ghost use Rattle.words.specs.Address.{placeOf};
 ghost use Rattle.receiver.specs.Moves.{mayMove, exceeded, nonexistent, overflowed, advanced, wordPassed, wordStored, moved};
 ghost use Rattle.receiver.specs.Side.{Within};
@@ -99,11 +99,11 @@ fn find_place(r: Receiver, memory: usize) -> Place
     address.place(memory)
 }
 
-// A memory of `length` words, which may be lent with more behind it.
-pub fn move_word(r: Receiver, memory: &mut [u16], length: usize) -> Moved
+// A memory of so many words as its unit was fitted with, which may be lent with more behind it.
+pub fn move_word(r: Receiver, memory: &mut [u16], fitted: usize) -> Moved
     requires { ⌜ Within r ⌝ }
-    requires { ⌜ length ≤ lib.ListN.length (now memory) ⌝ }
-    ensures { λ m. ⌜ _≡_ {A = Moved × List ℕ} (m, now (memory .exit)) (moved r (now (memory .entry)) length) ⌝ }
+    requires { ⌜ fitted ≤ length (now memory) ⌝ }
+    ensures { λ m. ⌜ _≡_ {A = Moved × List ℕ} (m, now (memory .exit)) (moved r (now (memory .entry)) fitted) ⌝ }
 {
     if !may_move(r) {
         return Moved {
@@ -117,7 +117,7 @@ pub fn move_word(r: Receiver, memory: &mut [u16], length: usize) -> Moved
             answer: Move::Done,
         };
     }
-    let Place::Inside(at) = find_place(r, length) else {
+    let Place::Inside(at) = find_place(r, fitted) else {
         return Moved {
             side: miss(r),
             answer: Move::Done,

@@ -7,18 +7,19 @@ use Rattle.silos.specs.Silo.{isEmpty, oldest, taken}
 use Rattle.words.specs.Address.{lowOf}
 use Rattle.words.specs.declared.answers.Read.{Read}
 use Rattle.receiver_registers.specs.Shown.{controlWord, statusWord}
-use Rattle.receiver.specs.Side.{withSilo}
+use Rattle.receiver.specs.Groups.{withSilo}
 use Rattle.receiver_registers.specs.declared.registers.Reading.{Reading}
 use Rattle.receiver.specs.declared.side.Receiver.{Receiver}
 
--- "RDDB alike, removing it unless RC NPR is set"; "Data silo empty: 4"
+-- "RDDB alike, removing it unless RC NPR is set"; "Data silo empty: 4". It shows what stood before (reading 9), and adds nothing to RDBC
+-- (reading 7).
 abbrev pub dataRead : Receiver → Reading
 dataRead r =
     pick (isEmpty (r .silo)) (record { side = r; answer = Read.Nothing })
     (pick (r .modes .memoryRequests) (record { side = r; answer = Read.Word (oldest (r .silo)) })
     (record { side = withSilo r (taken (r .silo)); answer = Read.Word (oldest (r .silo)) }))
 
--- "RCR 16, RSR 18, .. RDBC 22, RDBA 24, RDCRC 26"; any other number, an odd one too, is no register
+-- "RCR 16, RSR 18, .. RDBC 22, RDBA 24, RDCRC 26"; any other number, an odd one too, is no register (reading 1)
 abbrev pub showOf : Receiver → ℕ → Read
 showOf r offset =
     pick (eqb offset 16) (Read.Word (controlWord r))

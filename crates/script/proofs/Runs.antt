@@ -8,7 +8,7 @@ use native.Mathlib.Numerals.{add-one}
 use native.Mathlib.Omega.{arith}
 use lib.ListN.{length, getD, take, drop, set, length-drop}
 use lib.Seq.{sets, getD-set-other, getD-drop, length-take-le, take-suc}
-use Rattle.script.specs.SetUpLaws.{units-long}
+use Rattle.script.specs.laws.SetUpLaws.{units-long}
 use Rattle.script.specs.SetUps.{unitAt, unitsAt}
 
 -- one run after the other is both in one

@@ -2,13 +2,11 @@
 use crate::bytes::byte_at;
 use crate::bytes::word_at;
 ghost use mathlib.Core.Path.{_≡_};
-ghost use Prim.Native.Nat.{_+_};
-ghost use lib.ListN.{length};
-ghost use Rattle.script.specs.Records.{sized, fitOf, callOf};
+ghost use Rattle.script.specs.Records.{sized, callOf};
 
-// The set-ups of a fit stand from `at` on, three bytes for each unit.
+// The set-ups of a fit stand in its record behind the count, three bytes for each unit.
 pub enum Call {
-    Fit { count: u8, at: usize },
+    Fit { count: u8 },
     WordWrite { unit: u8, offset: u8, word: u16 },
     WordRead { unit: u8, offset: u8 },
     Slice { mask: u16, parity: u8 },
@@ -19,70 +17,51 @@ pub enum Call {
     Level { unit: u8, side: u8 },
 }
 
-// A place in a window of the input.
-pub struct Cursor {
-    pub at: usize,
-}
-
-// What stands at a cursor: a call and the place after its record; the end of the input; what has to print `stop`. Or the window
-// does not tell, and more of the input is wanted.
+// What the bytes of an input begin with: a call, and how many bytes its record has; the end of the input; what has to print `stop`.
+// Or they do not tell, and more of the input is wanted.
 pub enum Found {
-    Call(Call, Cursor),
+    Call(Call, usize),
     End,
     Stop,
     More,
 }
 
-// A call whose record has the length that its kind asks for.
-fn sized(bytes: &[u8], length: usize, call: Call, next: Cursor) -> Found
-    ensures { λ r. ⌜ r ≡ sized (now (bytes .entry)) length call next ⌝ }
+// A call whose kind and body have the length that its kind asks for.
+fn sized(bytes: &[u8], length: usize, call: Call) -> Found
+    ensures { λ r. ⌜ r ≡ sized (now (bytes .entry)) length call ⌝ }
 {
     if bytes.len() == length {
-        return Found::Call(call, next);
+        return Found::Call(call, 2 + length);
     }
     Found::Stop
 }
 
-fn fit_of(bytes: &[u8], at: usize, next: Cursor) -> Found
-    requires { ⌜ next .at ≡ at + length (now bytes) ⌝ }
-    ensures { λ r. ⌜ r ≡ fitOf (now (bytes .entry)) at next ⌝ }
-{
-    let count = byte_at(bytes, 2);
-    if bytes.len() == 3 + 3 * count as usize {
-        return Found::Call(Call::Fit { count, at: at + 3 }, next);
-    }
-    Found::Stop
-}
-
-// The call of a record whose kind and body stand from `at` on.
-pub(crate) fn call_of(bytes: &[u8], at: usize, next: Cursor) -> Found
-    requires { ⌜ next .at ≡ at + length (now bytes) ⌝ }
-    ensures { λ r. ⌜ r ≡ callOf (now (bytes .entry)) at next ⌝ }
+// The call of a record, of which these are kind and body.
+pub(crate) fn call_of(bytes: &[u8]) -> Found
+    ensures { λ r. ⌜ r ≡ callOf (now (bytes .entry)) ⌝ }
 {
     let kind = word_at(bytes, 0);
-    let unit = byte_at(bytes, 2);
+    let first = byte_at(bytes, 2);
     let second = byte_at(bytes, 3);
     let third = byte_at(bytes, 4);
     match kind {
-        1 => fit_of(bytes, at, next),
+        1 => sized(bytes, 3 + 3 * first as usize, Call::Fit { count: first }),
         2 => sized(
             bytes,
             6,
             Call::WordWrite {
-                unit,
+                unit: first,
                 offset: second,
                 word: word_at(bytes, 4),
             },
-            next,
         ),
         3 => sized(
             bytes,
             4,
             Call::WordRead {
-                unit,
+                unit: first,
                 offset: second,
             },
-            next,
         ),
         4 => sized(
             bytes,
@@ -91,22 +70,34 @@ pub(crate) fn call_of(bytes: &[u8], at: usize, next: Cursor) -> Found
                 mask: word_at(bytes, 2),
                 parity: third,
             },
-            next,
         ),
-        5 => sized(bytes, 4, Call::Move { unit, side: second }, next),
-        6 => sized(bytes, 3, Call::Period { unit }, next),
-        7 => sized(bytes, 3, Call::Reset { unit }, next),
+        5 => sized(
+            bytes,
+            4,
+            Call::Move {
+                unit: first,
+                side: second,
+            },
+        ),
+        6 => sized(bytes, 3, Call::Period { unit: first }),
+        7 => sized(bytes, 3, Call::Reset { unit: first }),
         8 => sized(
             bytes,
             5,
             Call::ByteWrite {
-                unit,
+                unit: first,
                 offset: second,
                 byte: third,
             },
-            next,
         ),
-        9 => sized(bytes, 4, Call::Level { unit, side: second }, next),
+        9 => sized(
+            bytes,
+            4,
+            Call::Level {
+                unit: first,
+                side: second,
+            },
+        ),
         _ => Found::Stop,
     }
 }

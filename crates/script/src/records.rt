@@ -1,27 +1,23 @@
-// The records of a script, in a window of the input.
+// The records of a script.
 use crate::bytes::word_at;
-use crate::calls::Cursor;
 use crate::calls::Found;
 use crate::calls::call_of;
 ghost use mathlib.Core.Path.{_≡_};
-ghost use Prim.Native.Nat.{_+_, _^_, _<_};
-ghost use lib.ListN.{length, drop};
-ghost use Rattle.script.specs.Records.{cutShort, recordIn, recordAt};
+ghost use Rattle.script.specs.Records.{cutShort, recordIn, nextRecord};
 
-// The length of the longest record, a fit of 255 units. No record is longer, so a window that holds 770 bytes holds one.
+// The length of the longest record, a fit of 255 units. No record is longer, so 770 bytes of the input hold one.
 const LONGEST: usize = 768;
 
-// A record that ends too early: the window's end may be the input's.
+// A record that the bytes at hand cut short: their end may be the input's.
 fn cut_short(ended: bool) -> Found
     ensures { λ r. ⌜ r ≡ cutShort ended ⌝ }
 {
     if ended { Found::Stop } else { Found::More }
 }
 
-// The record that the bytes of a window from `at` on begin with.
-fn read_record(rest: &[u8], at: usize, ended: bool) -> Found
-    requires { ⌜ at + length (now rest) < 2 ^ 64 ⌝ }
-    ensures { λ r. ⌜ r ≡ recordIn (now (rest .entry)) at ended ⌝ }
+// The record that these bytes begin with.
+fn read_record(rest: &[u8], ended: bool) -> Found
+    ensures { λ r. ⌜ r ≡ recordIn (now (rest .entry)) ended ⌝ }
 {
     if rest.len() < 2 {
         return cut_short(ended);
@@ -34,19 +30,18 @@ fn read_record(rest: &[u8], at: usize, ended: bool) -> Found
         return cut_short(ended);
     }
     let end = 2 + length;
-    call_of(&rest[2..end], at + 2, Cursor { at: at + end })
+    call_of(&rest[2..end])
 }
 
-// What stands at a cursor in a window of the input. `ended` says that the input ends where the window does.
-pub fn next_record(window: &[u8], cursor: Cursor, ended: bool) -> Found
-    ensures { λ r. ⌜ r ≡ recordAt (drop (cursor .at) (now (window .entry))) (cursor .at) ended ⌝ }
+// What comes next in the input, of which these are the bytes at hand. `ended` says that no more come after them.
+pub fn next_record(rest: &[u8], ended: bool) -> Found
+    ensures { λ r. ⌜ r ≡ nextRecord (now (rest .entry)) ended ⌝ }
 {
-    let at = cursor.at;
-    if window.len() <= at {
+    if rest.len() == 0 {
         if ended {
             return Found::End;
         }
         return Found::More;
     }
-    read_record(&window[at..], at, ended)
+    read_record(rest, ended)
 }

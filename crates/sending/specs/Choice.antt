@@ -12,7 +12,8 @@ use Rattle.words.specs.Load.{wordsLeft}
 use Rattle.words.specs.declared.lines.Sent.{Sent}
 use Rattle.sending.specs.declared.choice.Choice.{Choice}
 
--- "T acts if its channel is open, or if it has SND WD, a word, a nonzero destination and no ERR; else idle."
+-- "T acts if its channel is open, or if it has SND WD, a word, a nonzero destination and no ERR; else idle." The destination is that of
+-- the moment (reading 29).
 abbrev pub mayOpen : Transmitter → Bool
 mayOpen t = t .commands .sendWord && not (isEmpty (t .silo)) && not (eqb (t .modes .destination) 0) && not (hasError t)
 
@@ -31,6 +32,7 @@ allSent t = t .commands .startTransmission && eqb (wordsLeft (t .load)) 0 && isE
 --  ST TXM set, no bytes left, silo empty, 11 with CRC, and T is ending until closed;
 --  ST TXM or SND WD and a word, 10;
 --  else 01."
+-- Whatever set ERR, T closes by it only here (reading 28).
 abbrev pub chosenOpen : Transmitter → Choice
 chosenOpen t =
     pick (hasError t) Choice.Stopped
@@ -55,7 +57,7 @@ actsOn Choice.DueCrc = true
 actsOn Choice.Word = true
 actsOn Choice.Null = true
 
--- "The destination is latched at opening."
+-- "The destination is latched at opening."; of a closed T it is that of the moment (reading 29)
 abbrev pub destinationOf : Transmitter → ℕ
 destinationOf t = pick (t .channel .opened) (t .channel .destination) (t .modes .destination)
 

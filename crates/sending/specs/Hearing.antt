@@ -1,13 +1,13 @@
 -- Document 01, One slice: "T on B", the chart, and what comes over it.
 -- Assumes nothing.
 use mathlib.Core.Bool.{Bool, true}
-use mathlib.Core.Path.{_≡_, refl}
-use Prim.Native.Nat.{ℕ, _<_}
-use lib.Dec.{eqb, lit<}
+use Prim.Native.Nat.{ℕ}
+use lib.Dec.{eqb}
 use Rattle.laws.specs.Pick.{pick}
 use Rattle.transmitter.specs.Requests.{settled}
-use Rattle.transmitter.specs.Side.{hasError, withShown, withChannel}
-use Rattle.transmitter.specs.declared.side.Channel.{Channel}
+use Rattle.transmitter.specs.Fields.{withEnding, withAwaiting}
+use Rattle.transmitter.specs.Groups.{withShown, withChannel}
+use Rattle.transmitter.specs.Side.{hasError}
 use Rattle.transmitter.specs.declared.side.Transmitter.{Transmitter}
 use Rattle.words.specs.Codes.{codesShown}
 use Rattle.words.specs.declared.lines.Answer.{Answer}
@@ -18,14 +18,8 @@ use Rattle.sending.specs.declared.choice.Choice.{Choice}
 
 -- ---- sending
 
-abbrev ending : Channel → Channel
-ending c = record { opened = c .opened; ending = true; awaiting = c .awaiting; destination = c .destination; block = c .block; crc = c .crc }
-
 abbrev pub endingNow : Transmitter → Transmitter
-endingNow t = withChannel t (ending (t .channel))
-
-abbrev awaiting : Channel → Channel
-awaiting c = record { opened = c .opened; ending = c .ending; awaiting = true; destination = c .destination; block = c .block; crc = c .crc }
+endingNow t = withChannel t (withEnding (t .channel) true)
 
 -- with the last CRC "T is ending until closed"; a due CRC is "sent and not yet answered 11"
 abbrev pub afterSending : Transmitter → Choice → Transmitter
@@ -33,25 +27,26 @@ afterSending t Choice.Idle = t
 afterSending t Choice.Opening = t
 afterSending t Choice.Stopped = t
 afterSending t Choice.LastCrc = endingNow t
-afterSending t Choice.DueCrc = withChannel t (awaiting (t .channel))
+afterSending t Choice.DueCrc = withChannel t (withAwaiting (t .channel) true)
 afterSending t Choice.Word = t
 afterSending t Choice.Null = t
 
--- "TSR bits 0 to 3 show the last own slice, are frozen by an error"
+-- "TSR bits 0 to 3 show the last own slice" in which T acts (reading 14), "are frozen by an error" that stood before it (reading 15)
 abbrev pub showing : Transmitter → ℕ → ℕ → Transmitter
 showing t a b = withShown t (codesShown (t .shown) (hasError t) a b)
 
 -- ---- an open T
 
--- "Success sets SUC TXF at both ends (and SORE, RECOM if truncated)."
+-- "Success sets SUC TXF at both ends (and SORE, RECOM if truncated)": SORE by R's truncation mark, which R tells (reading 27)
 abbrev pub finished : Transmitter → Bool → Transmitter
 finished t truncated = pick truncated (closed (succeeded (wasRejected t))) (closed (succeeded t))
 
 -- "11 to a word removes it"; where it was the receiver's good verdict on a due CRC, "both counts restart" before it is counted
+-- (reading 24)
 abbrev pub wordHeard : Transmitter → Bool → Transmitter
 wordHeard t restarts = pick restarts (wordAccepted (restarted t)) (wordAccepted t)
 
--- 11 to a word, and 11 to a CRC, which restarts T's CRC and count
+-- 11 to a word, and 11 to a CRC, which restarts T's CRC and count, and is no word accepted (reading 24)
 abbrev pub acknowledged : Transmitter → Choice → Bool → Transmitter
 acknowledged t Choice.Idle restarts = t
 acknowledged t Choice.Opening restarts = t
@@ -79,7 +74,8 @@ heardOpen t choice answer =
 
 -- ---- a closed T
 
--- "opens a closed T"; "Closed and 00: TBS BSY. But for TSR bits 0 to 3, a closed T is left unchanged by 01, by 10 and by rules 6 and 7."
+-- "opens a closed T"; "Closed and 00: TBS BSY. But for TSR bits 0 to 3, a closed T is left unchanged by 01, by 10 and by rules 6 and 7"
+-- (reading 26)
 abbrev pub heardClosed : Transmitter → ℕ → Transmitter
 heardClosed t b = pick (eqb b 3) (wordAccepted (opening t)) (pick (eqb b 0) (metBusy t) t)
 
@@ -96,23 +92,3 @@ heardActing t Choice.Null answer = heardOpen t Choice.Null answer
 
 abbrev pub heard : Transmitter → Choice → Answer → Transmitter
 heard t choice answer = settled (heardActing (showing (afterSending t choice) (codeOf choice) (answer .code)) choice answer)
-
--- ---- laws: sending changes no count, and a code is a code
-
-pub block-sent : (t : Transmitter) (choice : Choice) → afterSending t choice .channel .block ≡ t .channel .block
-block-sent t Choice.Idle = refl
-block-sent t Choice.Opening = refl
-block-sent t Choice.Stopped = refl
-block-sent t Choice.LastCrc = refl
-block-sent t Choice.DueCrc = refl
-block-sent t Choice.Word = refl
-block-sent t Choice.Null = refl
-
-pub code-lt : (choice : Choice) → codeOf choice < 4
-code-lt Choice.Idle = lit< tt
-code-lt Choice.Opening = lit< tt
-code-lt Choice.Stopped = lit< tt
-code-lt Choice.LastCrc = lit< tt
-code-lt Choice.DueCrc = lit< tt
-code-lt Choice.Word = lit< tt
-code-lt Choice.Null = lit< tt

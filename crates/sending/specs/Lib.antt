@@ -2,5 +2,4 @@ pub mod Chart
 pub mod Choice
 pub mod Events
 pub mod Hearing
-pub mod Keeps
-pub mod Talking
+pub mod laws

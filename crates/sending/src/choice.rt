@@ -43,20 +43,21 @@ fn all_sent(t: Transmitter) -> bool
 fn choose_open(t: Transmitter) -> Choice
     ensures { λ r. ⌜ r ≡ chosenOpen t ⌝ }
 {
+    let wants = t.commands.startTransmission | t.commands.sendWord;
+    let full = t.channel.block == 128;
     if has_error(t) {
         return Choice::Stopped;
     }
     if t.channel.ending {
         return Choice::LastCrc;
     }
-    let wants = t.commands.startTransmission | t.commands.sendWord;
     if t.channel.awaiting & wants {
         return Choice::DueCrc;
     }
     if all_sent(t) {
         return Choice::LastCrc;
     }
-    if (t.channel.block == 128) & wants {
+    if full & wants {
         return Choice::DueCrc;
     }
     let silo = t.silo;

@@ -1,3 +1,3 @@
 pub mod Cells
-pub mod Laws
 pub mod Silo
+pub mod laws

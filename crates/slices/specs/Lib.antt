@@ -1,3 +1,2 @@
-pub mod InStep
-pub mod Keeps
 pub mod Slice
+pub mod laws

@@ -26,7 +26,8 @@ ended t choice a = pairOf (heard t choice (a .answer)) (codeOf choice) a
 abbrev pub passed : Transmitter → Choice → Receiver → ℕ → Sent → Pair
 passed t choice r from sent = ended t choice (answeredBy r from sent)
 
--- "T acts if ..; else idle": "A and B 00, nothing else". What T sends reaches R with the damage.
+-- "T acts if ..; else idle": "A and B 00, nothing else", the codes shown at both ends included (reading 14). What T sends reaches R with
+-- the damage, which is an inversion of lines (reading 22).
 abbrev pub exchangedAs : Transmitter → Choice → Receiver → ℕ → ℕ → Bool → Pair
 exchangedAs t choice r from mask parity =
     pick (actsOn choice) (passed t choice r from (damaged (sentBy t choice) mask parity))

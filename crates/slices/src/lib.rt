@@ -39,8 +39,9 @@ fn pass(t: Transmitter, choice: Choice, r: Receiver, from: u16, sent: Sent) -> P
     let receiver = answered.side;
     let a = code(choice);
     let b = answer.code;
+    let transmitter = hear(t, choice, answer);
     Pair {
-        transmitter: hear(t, choice, answer),
+        transmitter,
         receiver,
         codes: Codes { a, b },
     }

@@ -3,20 +3,10 @@
 use mathlib.Core.Bool.{true, not, _&&_}
 use Rattle.laws.specs.Pick.{pick}
 use Rattle.silos.specs.Silo.{isEmpty}
+use Rattle.transmitter.specs.Fields.{withMasterDown}
 use Rattle.transmitter.specs.Requests.{failed}
-use Rattle.transmitter.specs.declared.side.Faults.{Faults}
 use Rattle.transmitter.specs.declared.side.Transmitter.{Transmitter}
 
-abbrev pub masterless : Faults → Faults
-masterless f =
-    record {
-      overrun = f .overrun;
-      timeOut = f .timeOut;
-      masterDown = true;
-      transmissionError = f .transmissionError;
-      memoryOverflow = f .memoryOverflow;
-      nonexistentLocation = f .nonexistentLocation;
-    }
-
+-- also with destination 0 or ERR standing (reading 20); it closes nothing at once (reading 28)
 abbrev pub masterMissed : Transmitter → Transmitter
-masterMissed t = pick (t .commands .sendWord && not (isEmpty (t .silo))) (failed t (masterless (t .faults))) t
+masterMissed t = pick (t .commands .sendWord && not (isEmpty (t .silo))) (failed t (withMasterDown (t .faults) true)) t

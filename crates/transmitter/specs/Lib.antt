@@ -1,6 +1,9 @@
+pub mod Bits
 pub mod Down
-pub mod Keeps
+pub mod Fields
+pub mod Groups
 pub mod Moves
 pub mod Periods
 pub mod Requests
 pub mod Side
+pub mod laws

@@ -11,10 +11,12 @@ use Rattle.words.specs.Load.{wordMoved}
 use Rattle.words.specs.declared.address.Place.{Place}
 use Rattle.words.specs.declared.answers.Move.{Move}
 use Rattle.words.specs.declared.load.Advance.{Advance}
+use Rattle.words.specs.declared.load.Load.{Load}
+use Rattle.transmitter.specs.Fields.{withMemoryRequests, withMemoryOverflow, withNonexistentLocation}
+use Rattle.transmitter.specs.Groups.{withSilo, withLoad, withModes}
 use Rattle.transmitter.specs.Requests.{failed}
-use Rattle.transmitter.specs.Side.{hasError, withSilo, withLoad, withModes}
+use Rattle.transmitter.specs.Side.{hasError}
 use Rattle.transmitter.specs.declared.moves.Moved.{Moved}
-use Rattle.transmitter.specs.declared.side.Faults.{Faults}
 use Rattle.transmitter.specs.declared.side.Modes.{Modes}
 use Rattle.transmitter.specs.declared.side.Transmitter.{Transmitter}
 
@@ -24,51 +26,21 @@ mayMove t =
     t .modes .memoryRequests && t .load .loaded && not (hasError t) && hasRoom 64 (t .silo) && not (t .modes .readSilo)
     && not (t .channel .ending)
 
--- "Address outside the memory: NXL."
-abbrev pub missing : Faults → Faults
-missing f =
-    record {
-      overrun = f .overrun;
-      timeOut = f .timeOut;
-      masterDown = f .masterDown;
-      transmissionError = f .transmissionError;
-      memoryOverflow = f .memoryOverflow;
-      nonexistentLocation = true;
-    }
-
+-- "Address outside the memory: NXL." It and memory overflow "come with number 0".
 abbrev pub nonexistent : Transmitter → Transmitter
-nonexistent t = failed t (missing (t .faults))
+nonexistent t = failed t (withNonexistentLocation (t .faults) true)
 
--- "An address wrapping past 777776 (octal) sets memory overflow."
-abbrev pub overflowing : Faults → Faults
-overflowing f =
-    record {
-      overrun = f .overrun;
-      timeOut = f .timeOut;
-      masterDown = f .masterDown;
-      transmissionError = f .transmissionError;
-      memoryOverflow = true;
-      nonexistentLocation = f .nonexistentLocation;
-    }
-
+-- "An address wrapping past 777776 (octal) sets memory overflow." The move at 777776 itself is done (reading 30).
 abbrev pub overflowed : Transmitter → Transmitter
-overflowed t = failed t (overflowing (t .faults))
+overflowed t = failed t (withMemoryOverflow (t .faults) true)
 
--- "Count 0 clears TX NPR."
-abbrev requesting : Modes → Bool → Modes
-requesting m left =
-    record {
-      inhibitIncrement = m .inhibitIncrement;
-      interruptEnable = m .interruptEnable;
-      readSilo = m .readSilo;
-      memoryRequests = left;
-      retryIfBusy = m .retryIfBusy;
-      destination = m .destination;
-    }
+-- "Count 0 clears TX NPR": it stays only where it stood and the load goes on
+abbrev pub requestsAfter : Modes → Load → Modes
+requestsAfter m after = withMemoryRequests m (m .memoryRequests && after .loaded)
 
 -- "Else the word is loaded, 2 added to count and, unless INH ADI, to the address."
 abbrev pub gone : Transmitter → ℕ → Advance → Transmitter
-gone t word a = withModes (withLoad (withSilo t (put 64 (t .silo) word)) (a .load)) (requesting (t .modes) (a .load .loaded))
+gone t word a = withModes (withLoad (withSilo t (put 64 (t .silo) word)) (a .load)) (requestsAfter (t .modes) (a .load))
 
 abbrev pub advanced : Transmitter → ℕ → Advance → Transmitter
 advanced t word a = pick (a .overflow) (overflowed (gone t word a)) (gone t word a)
@@ -76,7 +48,7 @@ advanced t word a = pick (a .overflow) (overflowed (gone t word a)) (gone t word
 abbrev pub wordLoaded : Transmitter → ℕ → Transmitter
 wordLoaded t word = advanced t word (wordMoved (t .load) (t .modes .inhibitIncrement))
 
--- the word at the load's address, in a memory of so many words
+-- the word at the load's address
 abbrev pub movedFrom : Transmitter → List ℕ → Place → Transmitter
 movedFrom t memory (Place.Inside at) = wordLoaded t (getD memory at 0)
 movedFrom t memory Place.Outside = nonexistent t
@@ -84,7 +56,8 @@ movedFrom t memory Place.Outside = nonexistent t
 abbrev pub doneWith : Transmitter → Moved
 doneWith t = record { side = t; answer = Move.Done }
 
+-- with a memory of so many words, which may be lent with more behind it (reading 33). The conditions of 4 go before NXL (reading 30).
 abbrev pub moved : Transmitter → List ℕ → ℕ → Moved
-moved t memory length =
+moved t memory fitted =
     pick (not (mayMove t)) (record { side = t; answer = Move.Nothing })
-    (doneWith (movedFrom t memory (placeOf (t .load .address .0) length)))
+    (doneWith (movedFrom t memory (placeOf (t .load .address .0) fitted)))

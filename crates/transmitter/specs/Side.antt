@@ -1,13 +1,10 @@
 -- The record of a transmitter: the values its numbers may take, its initial state, and the bits that are computed from it.
 -- Assumes nothing.
-use mathlib.Core.Bool.{Bool, true, false, not, _&&_, _||_}
-use Prim.Native.Nat.{ℕ, _^_, _≤_, _<_}
-use Rattle.silos.specs.Silo.{Sized, noWords, isEmpty, hasRoom}
-use Rattle.silos.specs.declared.Silo.{Silo}
+use mathlib.Core.Bool.{Bool, false, not, _&&_, _||_}
+use Prim.Native.Nat.{_^_, _≤_, _<_}
+use Rattle.silos.specs.Silo.{Sized, noWords, hasRoom}
 use Rattle.words.specs.Codes.{Coded, noCodes}
 use Rattle.words.specs.Load.{Bounded, noLoad}
-use Rattle.words.specs.declared.codes.Codes.{Codes}
-use Rattle.words.specs.declared.load.Load.{Load}
 use Rattle.transmitter.specs.declared.side.Channel.{Channel}
 use Rattle.transmitter.specs.declared.side.Commands.{Commands}
 use Rattle.transmitter.specs.declared.side.Faults.{Faults}
@@ -25,7 +22,7 @@ pub record Within (t : Transmitter) : Type 0 where
   pub block : t .channel .block ≤ 128
   pub crc : t .channel .crc < 2 ^ 16
 
--- ---- "Fit gives every side its initial state"
+-- ---- "Fit gives every side its initial state": TX INIT gives the same, with no exception (reading 10)
 
 abbrev pub noCommands : Commands
 noCommands = record { startTransmission = false; sendWord = false }
@@ -81,131 +78,3 @@ hasError t = anyFault (t .faults)
 -- "DTIRDY (silo not full, TX NPR and RD SILO clear, not ending)"
 abbrev pub dataInReady : Transmitter → Bool
 dataInReady t = hasRoom 64 (t .silo) && not (t .modes .memoryRequests) && not (t .modes .readSilo) && not (t .channel .ending)
-
--- ---- the record with one group changed
-
-abbrev pub withSilo : Transmitter → Silo → Transmitter
-withSilo t x =
-    record {
-      silo = x;
-      load = t .load;
-      shown = t .shown;
-      commands = t .commands;
-      modes = t .modes;
-      faults = t .faults;
-      outcome = t .outcome;
-      channel = t .channel;
-      mark = t .mark;
-    }
-
-abbrev pub withLoad : Transmitter → Load → Transmitter
-withLoad t x =
-    record {
-      silo = t .silo;
-      load = x;
-      shown = t .shown;
-      commands = t .commands;
-      modes = t .modes;
-      faults = t .faults;
-      outcome = t .outcome;
-      channel = t .channel;
-      mark = t .mark;
-    }
-
-abbrev pub withShown : Transmitter → Codes → Transmitter
-withShown t x =
-    record {
-      silo = t .silo;
-      load = t .load;
-      shown = x;
-      commands = t .commands;
-      modes = t .modes;
-      faults = t .faults;
-      outcome = t .outcome;
-      channel = t .channel;
-      mark = t .mark;
-    }
-
-abbrev pub withCommands : Transmitter → Commands → Transmitter
-withCommands t x =
-    record {
-      silo = t .silo;
-      load = t .load;
-      shown = t .shown;
-      commands = x;
-      modes = t .modes;
-      faults = t .faults;
-      outcome = t .outcome;
-      channel = t .channel;
-      mark = t .mark;
-    }
-
-abbrev pub withModes : Transmitter → Modes → Transmitter
-withModes t x =
-    record {
-      silo = t .silo;
-      load = t .load;
-      shown = t .shown;
-      commands = t .commands;
-      modes = x;
-      faults = t .faults;
-      outcome = t .outcome;
-      channel = t .channel;
-      mark = t .mark;
-    }
-
-abbrev pub withFaults : Transmitter → Faults → Transmitter
-withFaults t x =
-    record {
-      silo = t .silo;
-      load = t .load;
-      shown = t .shown;
-      commands = t .commands;
-      modes = t .modes;
-      faults = x;
-      outcome = t .outcome;
-      channel = t .channel;
-      mark = t .mark;
-    }
-
-abbrev pub withOutcome : Transmitter → Outcome → Transmitter
-withOutcome t x =
-    record {
-      silo = t .silo;
-      load = t .load;
-      shown = t .shown;
-      commands = t .commands;
-      modes = t .modes;
-      faults = t .faults;
-      outcome = x;
-      channel = t .channel;
-      mark = t .mark;
-    }
-
-abbrev pub withChannel : Transmitter → Channel → Transmitter
-withChannel t x =
-    record {
-      silo = t .silo;
-      load = t .load;
-      shown = t .shown;
-      commands = t .commands;
-      modes = t .modes;
-      faults = t .faults;
-      outcome = t .outcome;
-      channel = x;
-      mark = t .mark;
-    }
-
-abbrev pub withMark : Transmitter → Bool → Transmitter
-withMark t x =
-    record {
-      silo = t .silo;
-      load = t .load;
-      shown = t .shown;
-      commands = t .commands;
-      modes = t .modes;
-      faults = t .faults;
-      outcome = t .outcome;
-      channel = t .channel;
-      mark = x;
-    }

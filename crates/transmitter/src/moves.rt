@@ -55,10 +55,11 @@ fn take_word(t: Transmitter, word: u16, advance: Advance) -> Transmitter
 {
     let silo = t.silo;
     let load = advance.load;
+    let requests = t.modes.memoryRequests & load.loaded;
     let mut next = t;
     next.silo = silo.put(WORDS, word);
     next.load = load;
-    next.modes.memoryRequests = load.loaded;
+    next.modes.memoryRequests = requests;
     if advance.overflow {
         return overflow(next);
     }
@@ -73,11 +74,11 @@ fn load_word(t: Transmitter, word: u16) -> Transmitter
     take_word(t, word, load.word_moved(t.modes.inhibitIncrement))
 }
 
-// A memory of `length` words, which may be lent with more behind it.
-pub fn move_word(t: Transmitter, memory: &[u16], length: usize) -> Moved
+// A memory of so many words as its unit was fitted with, which may be lent with more behind it.
+pub fn move_word(t: Transmitter, memory: &[u16], fitted: usize) -> Moved
     requires { ⌜ Within t ⌝ }
-    requires { ⌜ length ≤ lib.ListN.length (now memory) ⌝ }
-    ensures { λ r. ⌜ r ≡ moved t (now (memory .entry)) length ⌝ }
+    requires { ⌜ fitted ≤ length (now memory) ⌝ }
+    ensures { λ r. ⌜ r ≡ moved t (now (memory .entry)) fitted ⌝ }
 {
     if !may_move(t) {
         return Moved {
@@ -87,7 +88,7 @@ pub fn move_word(t: Transmitter, memory: &[u16], length: usize) -> Moved
     }
     let load = t.load;
     let address = load.address;
-    let Place::Inside(at) = address.place(length) else {
+    let Place::Inside(at) = address.place(fitted) else {
         return Moved {
             side: miss(t),
             answer: Move::Done,

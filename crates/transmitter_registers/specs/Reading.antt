@@ -7,18 +7,18 @@ use Rattle.silos.specs.Silo.{isEmpty, oldest, taken}
 use Rattle.words.specs.Address.{lowOf}
 use Rattle.words.specs.declared.answers.Read.{Read}
 use Rattle.transmitter_registers.specs.Shown.{controlWord, statusWord}
-use Rattle.transmitter.specs.Side.{withSilo}
+use Rattle.transmitter.specs.Groups.{withSilo}
 use Rattle.transmitter_registers.specs.declared.registers.Reading.{Reading}
 use Rattle.transmitter.specs.declared.side.Transmitter.{Transmitter}
 
--- "TSDB read shows the oldest word, removing it only with RD SILO set"; "Data silo empty: 4"
+-- "TSDB read shows the oldest word, removing it only with RD SILO set"; "Data silo empty: 4". It shows what stood before (reading 9).
 abbrev pub dataRead : Transmitter → Reading
 dataRead t =
     pick (isEmpty (t .silo)) (record { side = t; answer = Read.Nothing })
     (pick (t .modes .readSilo) (record { side = withSilo t (taken (t .silo)); answer = Read.Word (oldest (t .silo)) })
     (record { side = t; answer = Read.Word (oldest (t .silo)) }))
 
--- "TCR 0, TSR 2, .. TSBC 6, TSBA 8, .. TSCRC 12"; any other number, an odd one too, is no register
+-- "TCR 0, TSR 2, .. TSBC 6, TSBA 8, .. TSCRC 12"; any other number, an odd one too, is no register (reading 1)
 abbrev pub showOf : Transmitter → ℕ → Read
 showOf t offset =
     pick (eqb offset 0) (Read.Word (controlWord t))

@@ -1,76 +1,54 @@
 -- Document 01, Registers: what a write of a transmitter's register does.
 -- Assumes nothing.
 use mathlib.Core.Bool.{Bool, true, not, _&&_, _||_}
-use Prim.Native.Nat.{ℕ, _/_, _%_, _^_}
+use Prim.Native.Nat.{ℕ}
 use lib.Dec.{eqb}
-use Rattle.laws.specs.Bits.{on}
+use Rattle.laws.specs.Bits.{bits, bitAt}
 use Rattle.laws.specs.Pick.{pick}
 use Rattle.silos.specs.Silo.{put}
 use Rattle.words.specs.Answers.{readWord}
 use Rattle.words.specs.Codes.{codesCleared}
 use Rattle.words.specs.Halves.{evenBelow, withHalf}
 use Rattle.words.specs.Load.{countLoaded, extensionLoaded, lowLoaded}
+use Rattle.words.specs.bits.TCR
+use Rattle.words.specs.bits.TSR
 use Rattle.words.specs.declared.answers.Write.{Write}
-use Rattle.transmitter_registers.specs.Reading.{showOf}
+use Rattle.transmitter.specs.Bits.{commandsIn, modesIn, faultsIn, outcomeIn}
+use Rattle.transmitter.specs.Fields.{withOverrun, withNonexistentLocation}
+use Rattle.transmitter.specs.Groups.{withSilo, withLoad, withShown, withCommands, withModes, withFaults, withOutcome}
 use Rattle.transmitter.specs.Requests.{requested, settled, failed}
-use Rattle.transmitter.specs.Side.{initial, hasError, dataInReady, withSilo, withLoad, withShown, withCommands, withModes, withFaults, withOutcome}
-use Rattle.transmitter_registers.specs.declared.registers.Written.{Written}
-use Rattle.transmitter.specs.declared.side.Commands.{Commands}
+use Rattle.transmitter.specs.Side.{hasError, dataInReady}
 use Rattle.transmitter.specs.declared.side.Faults.{Faults}
-use Rattle.transmitter.specs.declared.side.Modes.{Modes}
-use Rattle.transmitter.specs.declared.side.Outcome.{Outcome}
 use Rattle.transmitter.specs.declared.side.Transmitter.{Transmitter}
+use Rattle.transmitter_registers.specs.Reading.{showOf}
+use Rattle.transmitter_registers.specs.declared.registers.Written.{Written}
 
 -- ---- TCR
 
--- TX INIT is bit 1
+-- whether a word written to TCR has TX INIT. What TX INIT does is said where the master section is at hand, which it changes too:
+-- `accesses.Writing`, `unitWritten` and `unitByteWritten`.
 abbrev pub initialises : ℕ → Bool
-initialises word = on (word / 2 ^ 1 % 2)
+initialises word = bitAt word TCR.TX-INIT
 
-abbrev pub commandsIn : ℕ → Commands
-commandsIn word = record { startTransmission = on (word % 2); sendWord = on (word / 2 ^ 13 % 2) }
-
-abbrev pub modesIn : ℕ → Modes
-modesIn word =
-    record {
-      inhibitIncrement = on (word / 2 ^ 2 % 2);
-      interruptEnable = on (word / 2 ^ 6 % 2);
-      readSilo = on (word / 2 ^ 7 % 2);
-      memoryRequests = on (word / 2 ^ 14 % 2);
-      retryIfBusy = on (word / 2 ^ 15 % 2);
-      destination = word / 2 ^ 8 % 32;
-    }
-
--- "TX INIT .. in a write gives that side its initial state, ..; the rest of the write is ignored." "Read-only bits ignore writes."
+-- what a write without TX INIT does: "Read-only bits ignore writes."
 abbrev pub controlWritten : Transmitter → ℕ → Transmitter
 controlWritten t word =
-    pick (initialises word) initial
-    (settled (withModes (withCommands (withLoad t (extensionLoaded (t .load) (word / 2 ^ 4 % 4))) (commandsIn word)) (modesIn word)))
+    settled (withModes (withCommands (withLoad t (extensionLoaded (t .load) (bits word TCR.EA16 2))) (commandsIn word)) (modesIn word))
 
 -- ---- TSR
 
 -- NXL: a written 0 clears it, a written 1 is ignored (reading 2)
-abbrev pub faultsIn : Faults → ℕ → Faults
-faultsIn before word =
-    record {
-      overrun = on (word / 2 ^ 9 % 2);
-      timeOut = on (word / 2 ^ 10 % 2);
-      masterDown = on (word / 2 ^ 11 % 2);
-      transmissionError = on (word / 2 ^ 12 % 2);
-      memoryOverflow = on (word / 2 ^ 13 % 2);
-      nonexistentLocation = before .nonexistentLocation && on (word / 2 ^ 14 % 2);
-    }
+abbrev pub faultsWritten : Faults → ℕ → Faults
+faultsWritten before word = withNonexistentLocation (faultsIn word) (before .nonexistentLocation && bitAt word TSR.NXL)
 
-abbrev pub outcomeIn : ℕ → Outcome
-outcomeIn word = record { busBusy = on (word / 2 ^ 4 % 2); softwareReject = on (word / 2 ^ 5 % 2); success = on (word / 2 ^ 7 % 2) }
-
--- SUC TXF taken from clear to set clears the codes shown
+-- SUC TXF taken from clear to set clears the codes shown (reading 16)
 abbrev pub statusSet : Transmitter → ℕ → Transmitter
 statusSet t word =
-    withOutcome (withFaults (withShown t (codesCleared (t .shown) (not (t .outcome .success) && outcomeIn word .success))) (faultsIn (t .faults) word))
+    withOutcome (withFaults (withShown t (codesCleared (t .shown) (not (t .outcome .success) && outcomeIn word .success))) (faultsWritten (t .faults) word))
     (outcomeIn word)
 
--- a host's write makes a request where it takes ERR, SUC TXF, SORE, or TBS BSY with RIB clear, from clear to set
+-- "A standing bit is set again by an event, not by a host's write of it": a write makes a request where it takes ERR, SUC TXF, SORE, or
+-- TBS BSY with RIB clear, from clear to set (reading 11)
 abbrev pub rises : Transmitter → Transmitter → Bool
 rises before after =
     (not (hasError before) && hasError after)
@@ -86,24 +64,13 @@ statusWritten t word = requestRaised t (statusSet t word)
 
 -- ---- TSDB
 
-abbrev pub overrun : Faults → Faults
-overrun f =
-    record {
-      overrun = true;
-      timeOut = f .timeOut;
-      masterDown = f .masterDown;
-      transmissionError = f .transmissionError;
-      memoryOverflow = f .memoryOverflow;
-      nonexistentLocation = f .nonexistentLocation;
-    }
-
--- "TSDB write: taken if DTIRDY ..; else 6." "TSDB: OVERUN set, with its request"
+-- "TSDB write: taken if DTIRDY ..; else 6." "TSDB: OVERUN set, with its request". It adds nothing to TSBC (reading 7).
 abbrev pub dataWritten : Transmitter → ℕ → Written
 dataWritten t word =
     pick (dataInReady t) (record { side = withSilo t (put 64 (t .silo) word); answer = Write.Done })
-    (record { side = failed t (overrun (t .faults)); answer = Write.Dropped })
+    (record { side = failed t (withOverrun (t .faults) true); answer = Write.Dropped })
 
--- ---- TSBC and TSBA
+-- ---- TSBC and TSBA: bit 0 reads back 0 (reading 6)
 
 abbrev pub countWritten : Transmitter → ℕ → Transmitter
 countWritten t word = withLoad t (countLoaded (t .load) word)
@@ -127,7 +94,8 @@ written t offset word =
     (pick (eqb offset 12) (done t)
     (record { side = t; answer = Write.NoRegister }))))))
 
--- "byte write to TSDB or RDDB" is 3; any other byte write is the write of its register's word with that half changed
+-- "byte write to TSDB or RDDB" is 3 (reading 8); any other byte write is the write of its register's word with that half changed, which
+-- marks TSBC loaded (reading 6)
 abbrev pub byteWritten : Transmitter → ℕ → ℕ → Written
 byteWritten t offset byte =
     pick (eqb (evenBelow offset) 4) (record { side = t; answer = Write.ByteRefused })

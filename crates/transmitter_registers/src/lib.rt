@@ -1,3 +1,4 @@
 // The host's reads and writes of a transmitter's registers.
 pub mod registers;
 pub mod shown;
+pub mod writes;

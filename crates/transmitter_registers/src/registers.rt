@@ -1,27 +1,23 @@
 // The host's reads and writes of a transmitter's registers, by their offsets.
 use crate::shown::control_word;
 use crate::shown::status_word;
-use silos::WORDS;
-use transmitter::requests::fail;
-use transmitter::requests::request;
-use transmitter::requests::settle;
-use transmitter::side::Commands;
-use transmitter::side::Faults;
-use transmitter::side::Modes;
-use transmitter::side::Outcome;
+use crate::writes::write_address;
+use crate::writes::write_control;
+use crate::writes::write_count;
+use crate::writes::write_data;
+use crate::writes::write_status;
 use transmitter::side::Transmitter;
-use transmitter::side::has_error;
-use transmitter::side::is_data_in_ready;
-use transmitter::side::start;
 use words::answers::Read;
 use words::answers::Write;
 use words::answers::word_read;
+use words::bits::bit_at;
+use words::bits::tcr;
 use words::halves::register_offset;
 use words::halves::with_half;
 ghost use mathlib.Core.Path.{_≡_};
 ghost use Rattle.transmitter.specs.Side.{Within};
 ghost use Rattle.transmitter_registers.specs.Reading.{dataRead, showOf, readOf};
-ghost use Rattle.transmitter_registers.specs.Writing.{initialises, commandsIn, modesIn, faultsIn, outcomeIn, rises, requestRaised, controlWritten, statusSet, statusWritten, dataWritten, countWritten, addressWritten, written, byteWritten};
+ghost use Rattle.transmitter_registers.specs.Writing.{initialises, written, byteWritten};
 
 pub struct Reading {
     pub side: Transmitter,
@@ -88,155 +84,11 @@ pub fn read(t: Transmitter, offset: u32) -> Reading
 
 // ---- writing
 
-// Whether a word written to TCR has TX INIT set.
+// Whether a word written to TCR has TX INIT set: such a write is the work of the crate that has the master section beside it.
 pub fn asks_init(word: u16) -> bool
     ensures { λ r. ⌜ r ≡ initialises word ⌝ }
 {
-    word / 2 % 2 == 1
-}
-
-fn commands_in(word: u16) -> Commands
-    ensures { λ r. ⌜ r ≡ commandsIn word ⌝ }
-{
-    Commands {
-        startTransmission: word % 2 == 1,
-        sendWord: word / 8192 % 2 == 1,
-    }
-}
-
-fn modes_in(word: u16) -> Modes
-    ensures { λ r. ⌜ r ≡ modesIn word ⌝ }
-{
-    Modes {
-        inhibitIncrement: word / 4 % 2 == 1,
-        interruptEnable: word / 64 % 2 == 1,
-        readSilo: word / 128 % 2 == 1,
-        memoryRequests: word / 16384 % 2 == 1,
-        retryIfBusy: word / 32768 % 2 == 1,
-        destination: word / 256 % 32,
-    }
-}
-
-// TCR. TX INIT gives the initial state, and the rest of the write is ignored.
-fn write_control(t: Transmitter, word: u16) -> Transmitter
-    ensures { λ r. ⌜ r ≡ controlWritten t word ⌝ }
-{
-    if asks_init(word) {
-        return start();
-    }
-    let load = t.load;
-    let mut next = t;
-    next.load = load.with_extension(word / 16 % 4);
-    next.commands = commands_in(word);
-    next.modes = modes_in(word);
-    settle(next)
-}
-
-// The error bits as written: NXL is cleared by a 0 and not set by a 1.
-fn faults_in(before: Faults, word: u16) -> Faults
-    ensures { λ r. ⌜ r ≡ faultsIn before word ⌝ }
-{
-    Faults {
-        overrun: word / 512 % 2 == 1,
-        timeOut: word / 1024 % 2 == 1,
-        masterDown: word / 2048 % 2 == 1,
-        transmissionError: word / 4096 % 2 == 1,
-        memoryOverflow: word / 8192 % 2 == 1,
-        nonexistentLocation: before.nonexistentLocation & (word / 16384 % 2 == 1),
-    }
-}
-
-fn outcome_in(word: u16) -> Outcome
-    ensures { λ r. ⌜ r ≡ outcomeIn word ⌝ }
-{
-    Outcome {
-        busBusy: word / 16 % 2 == 1,
-        softwareReject: word / 32 % 2 == 1,
-        success: word / 128 % 2 == 1,
-    }
-}
-
-fn set_status(t: Transmitter, word: u16) -> Transmitter
-    ensures { λ r. ⌜ r ≡ statusSet t word ⌝ }
-{
-    let faults = t.faults;
-    let outcome = outcome_in(word);
-    let shown = t.shown;
-    let mut next = t;
-    next.shown = shown.clear(!t.outcome.success & outcome.success);
-    next.faults = faults_in(faults, word);
-    next.outcome = outcome;
-    next
-}
-
-// Whether a write of TSR took a bit of a request from clear to set.
-fn makes_request(before: Transmitter, after: Transmitter) -> bool
-    ensures { λ r. ⌜ r ≡ rises before after ⌝ }
-{
-    let error = !has_error(before) & has_error(after);
-    let success = !before.outcome.success & after.outcome.success;
-    let reject = !before.outcome.softwareReject & after.outcome.softwareReject;
-    let busy = !before.outcome.busBusy & after.outcome.busBusy & !after.modes.retryIfBusy;
-    error | success | reject | busy
-}
-
-// With that request made.
-fn raise_request(before: Transmitter, after: Transmitter) -> Transmitter
-    ensures { λ r. ⌜ r ≡ requestRaised before after ⌝ }
-{
-    if makes_request(before, after) {
-        return settle(request(after));
-    }
-    after
-}
-
-// TSR.
-fn write_status(t: Transmitter, word: u16) -> Transmitter
-    ensures { λ r. ⌜ r ≡ statusWritten t word ⌝ }
-{
-    raise_request(t, set_status(t, word))
-}
-
-// TSDB: taken, or dropped with OVERUN.
-fn write_data(t: Transmitter, word: u16) -> Written
-    ensures { λ r. ⌜ r ≡ dataWritten t word ⌝ }
-{
-    if is_data_in_ready(t) {
-        let silo = t.silo;
-        let mut next = t;
-        next.silo = silo.put(WORDS, word);
-        return Written {
-            side: next,
-            answer: Write::Done,
-        };
-    }
-    let mut faults = t.faults;
-    faults.overrun = true;
-    Written {
-        side: fail(t, faults),
-        answer: Write::Dropped,
-    }
-}
-
-// TSBC.
-fn write_count(t: Transmitter, word: u16) -> Transmitter
-    ensures { λ r. ⌜ r ≡ countWritten t word ⌝ }
-{
-    let load = t.load;
-    let mut next = t;
-    next.load = load.with_count(word);
-    next
-}
-
-// TSBA.
-fn write_address(t: Transmitter, word: u16) -> Transmitter
-    requires { ⌜ Within t ⌝ }
-    ensures { λ r. ⌜ r ≡ addressWritten t word ⌝ }
-{
-    let load = t.load;
-    let mut next = t;
-    next.load = load.with_low(word);
-    next
+    bit_at(word, tcr::TX_INIT)
 }
 
 pub fn write(t: Transmitter, offset: u32, word: u16) -> Written

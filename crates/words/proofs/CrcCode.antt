@@ -12,7 +12,7 @@ use lib.Bits.{bitXor, bitAnd, and-mask, xor-add-and, xor-shr, xor-comm, xor-zero
 use lib.Pow.{shr-shr, field, mod-mod-pow}
 use lib.Dec.{eqb}
 use Rattle.words.specs.Crc.{polynomial, crcBit, crcBits, crcWord}
-use Rattle.words.specs.CrcSteps.{step, steps}
+use Rattle.words.specs.laws.CrcSteps.{step, steps}
 
 -- ---- xor: its half is the halves', and its last bit that of the sum
 

@@ -3,8 +3,7 @@
 -- Assumes nothing.
 use mathlib.Core.Bool.{Bool}
 use Prim.Native.Nat.{ℕ, _<_}
-use lib.Dec.{lit<}
-use Rattle.laws.specs.Pick.{pick, either}
+use Rattle.laws.specs.Pick.{pick}
 use Rattle.words.specs.declared.codes.Codes.{Codes}
 
 -- the values they may take
@@ -15,21 +14,11 @@ pub record Coded (c : Codes) : Type 0 where
 abbrev pub noCodes : Codes
 noCodes = record { a = 0; b = 0 }
 
--- "show the last own slice, are frozen by an error": not changed where an error stood before the slice
+-- "show the last own slice": one in which T acts, or a slice of R's own channel, the opening one included (reading 14); "are frozen by an
+-- error": not changed where ERR stood before the slice; the slice in which the error arises is shown (reading 15)
 abbrev pub codesShown : Codes → Bool → ℕ → ℕ → Codes
 codesShown c frozen a b = pick frozen c (record { a = a; b = b })
 
--- "cleared by SUC TXF"
+-- "cleared by SUC TXF", by the event and by a host's write that takes it from clear to set, also where they were frozen (reading 16)
 abbrev pub codesCleared : Codes → Bool → Codes
 codesCleared c success = pick success noCodes c
-
--- ---- laws: they stay codes
-
-pub coded-none : Coded noCodes
-coded-none = record { codeA = lit< tt; codeB = lit< tt }
-
-pub coded-shown : (c : Codes) (frozen : Bool) (a b : ℕ) → Coded c → a < 4 → b < 4 → Coded (codesShown c frozen a b)
-coded-shown c frozen a b h ha hb = either Coded frozen (λ e. h) (λ e. record { codeA = ha; codeB = hb })
-
-pub coded-cleared : (c : Codes) (success : Bool) → Coded c → Coded (codesCleared c success)
-coded-cleared c success h = either Coded success (λ e. coded-none) (λ e. h)

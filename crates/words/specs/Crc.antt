@@ -1,7 +1,6 @@
 -- Document 01, One slice: "CRC: x^16+x^15+x^2+1, start 0, least bit first, over the words".
 -- Assumes nothing.
-use mathlib.Core.List.{List, [], _∷_, _++_}
-use mathlib.Core.Path.{_≡_, refl}
+use mathlib.Core.List.{List, [], _∷_}
 use Prim.Native.Nat.{ℕ, zero, suc, _+_, _-_, _/_, _%_, _^_}
 use lib.Bits.{bitXor}
 use lib.Dec.{eqb}

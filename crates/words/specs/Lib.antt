@@ -3,11 +3,11 @@ pub mod Answers
 pub mod Codes
 pub mod Count
 pub mod Crc
-pub mod CrcLaws
-pub mod CrcSteps
 pub mod Halves
 pub mod Lines
 pub mod Load
 pub mod Parity
 pub mod Slices
 pub mod Table
+pub mod bits
+pub mod laws

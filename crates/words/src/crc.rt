@@ -1,7 +1,7 @@
 // CRC-16. Only this file knows how a CRC is run.
 ghost use mathlib.Core.Path.{_≡_};
 ghost use Rattle.words.specs.Crc.{crcWord};
-ghost use Rattle.words.specs.CrcSteps.{step, steps};
+ghost use Rattle.words.specs.laws.CrcSteps.{step, steps};
 
 // One shift of the register with no new bit: the polynomial goes in where a one is shifted out.
 fn shift(crc: u16) -> u16

@@ -2,6 +2,7 @@
 // words, and what a register access is answered.
 pub mod address;
 pub mod answers;
+pub mod bits;
 pub mod codes;
 pub mod count;
 pub mod crc;

@@ -2,7 +2,7 @@
 use borrow.Author.Needs.{needs}
 use mathlib.Core.Path.{ap, ap₂, _∙_}
 use Prim.Native.Nat.{ℕ}
-use Rattle.answering.specs.Keeps.{code-lt}
+use Rattle.answering.specs.laws.Keeps.{code-lt}
 use Rattle.transmitter.specs.declared.side.Transmitter.{Transmitter}
 use Rattle.slices.specs.Slice.{ended, pairOf}
 use Rattle.slices.proofs.pass.Statement.{statement}

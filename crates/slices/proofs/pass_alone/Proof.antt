@@ -1,10 +1,8 @@
 -- B is 00, and it is heard.
 use borrow.Author.Needs.{needs}
 use mathlib.Core.Path.{ap, ap₂, _∙_}
-use Prim.Native.Nat.{ℕ}
 use lib.Dec.{lit<}
 use Rattle.sending.specs.Hearing.{heard}
-use Rattle.transmitter.specs.declared.side.Transmitter.{Transmitter}
 use Rattle.slices.specs.Slice.{aloneOf}
 use Rattle.slices.proofs.pass_alone.Statement.{statement}
 use Rattle.slices.proofs.pass_alone.Tie as tie

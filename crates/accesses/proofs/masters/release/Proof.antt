@@ -7,10 +7,10 @@ use Rattle.accesses.proofs.masters.release.Statement.{statement}
 use Rattle.accesses.proofs.masters.release.Tie as tie
 
 returns : tie.Need-returns
-returns c = here _ (eq-eqb _ _ (c .if1 .taken)) refl
+returns c = here _ (eq-eqb _ _ (rw (c .before .holder .ensures) at (c .if1 .taken))) refl
 
 returns-2 : tie.Need-returns-2
-returns-2 c = past _ (ne-eqb _ _ (c .if1 .left)) refl
+returns-2 c = let e = c .before .holder .ensures in past _ (ne-eqb _ _ (rw e at (c .if1 .left))) e
 
 pub release-spec : {M : Type 1} → statement M
-release-spec = tie.close (tie.spec (λ c. search needs) returns returns-2)
+release-spec = tie.close (tie.spec (λ c κs. search needs) (λ c. search needs) (λ c. search needs) returns returns-2)

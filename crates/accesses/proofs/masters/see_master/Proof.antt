@@ -7,13 +7,17 @@ use Rattle.accesses.proofs.masters.see_master.Statement.{statement}
 use Rattle.accesses.proofs.masters.see_master.Tie as tie
 
 returns : tie.Need-returns
-returns c = here _ (eq-eqb _ _ (c .if1 .taken)) refl
+returns c = here _ (eq-eqb _ _ (rw (c .before .holder .ensures) at (c .if1 .taken))) refl
 
 returns-2 : tie.Need-returns-2
-returns-2 c = past _ (ne-eqb _ _ (c .before .if1 .left)) (here _ (eq-eqb _ _ (c .if2 .taken)) refl)
+returns-2 c =
+    let e = c .before .before .holder .ensures in
+    past _ (ne-eqb _ _ (rw e at (c .before .if1 .left))) (here _ (eq-eqb _ _ (rw e at (c .if2 .taken))) refl)
 
 returns-3 : tie.Need-returns-3
-returns-3 c = past _ (ne-eqb _ _ (c .before .if1 .left)) (past _ (ne-eqb _ _ (c .if2 .left)) refl)
+returns-3 c =
+    let e = c .before .before .holder .ensures in
+    past _ (ne-eqb _ _ (rw e at (c .before .if1 .left))) (past _ (ne-eqb _ _ (rw e at (c .if2 .left))) refl)
 
 pub see-master-spec : {M : Type 1} → statement M
-see-master-spec = tie.close (tie.spec returns (λ c. search needs) returns-2 returns-3)
+see-master-spec = tie.close (tie.spec (λ c κs. search needs) (λ c. search needs) returns (λ c. search needs) returns-2 returns-3)

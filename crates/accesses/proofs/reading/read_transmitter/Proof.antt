@@ -1,18 +1,16 @@
 -- The side out of its window, the rule, and the side put back.
-use borrow.Author.Needs.{needs}
 use mathlib.Core.List.{List}
 use mathlib.Core.Path.{ap, _∙_}
 use Prim.Native.Nat.{ℕ}
-use native.Mathlib.Omega.{arith}
 use Rattle.transmitter.specs.declared.side.Transmitter.{Transmitter}
-use Rattle.transmitter_registers.specs.Keeps.{within-read}
+use Rattle.transmitter_registers.specs.laws.Keeps.{within-read}
 use Rattle.transmitter_registers.specs.Reading.{readOf}
 use Rattle.accesses.specs.Reading.{afterTransmitter}
 use Rattle.accesses.proofs.reading.read_transmitter.Statement.{statement}
 use Rattle.accesses.proofs.reading.read_transmitter.Tie as tie
 
 load-transmitter-requires : tie.Need-load-transmitter-requires
-load-transmitter-requires c κs = omega (arith, c .before .before .pre .room)
+load-transmitter-requires c κs = let f = c .before .before .pre in (f .number, f .room)
 
 read-requires : tie.Need-read-requires
 read-requires c κs = rw (c .load-transmitter .ensures) (c .before .before .before .pre .transmitter)
@@ -21,25 +19,19 @@ store-transmitter-requires : tie.Need-store-transmitter-requires
 store-transmitter-requires c κs =
     let start = c .before .before .before .before .before in
     let a = start .args in
-    (omega (arith, start .pre .room), rw (c .before .read .ensures, c .before .before .load-transmitter .ensures) (within-read _ (start .pre .transmitter) (a .offset)))
+    ((start .pre .number, start .pre .room), rw (c .before .read .ensures, c .before .before .load-transmitter .ensures) (within-read _ (start .pre .transmitter) (a .offset)))
+
+same-length : tie.Need-same-length
+same-length c = c .before .before .store-transmitter .kept .0
 
 returns : tie.Need-returns
 returns c =
-    let kept = c .before .before in
-    let ruled = kept .before .before in
-    let a = ruled .before .before .before .before .args in
-    ap (λ (l : List ℕ). (ruled .read .result .answer, l)) (kept .store-transmitter .ensures)
-    ∙ ap (afterTransmitter (a .cells .now) (a .unit)) (ruled .read .ensures ∙ ap (λ (x : Transmitter). readOf x (a .offset)) (ruled .before .load-transmitter .ensures))
+    let stored = c .before .before in
+    let ruled = stored .before .before in
+    let loaded = ruled .before in
+    let a = loaded .before .before .before .args in
+    ap (λ (l : List ℕ). (ruled .read .result .answer, l)) (stored .store-transmitter .ensures)
+    ∙ ap (afterTransmitter (a .cells .now) (a .unit)) (ruled .read .ensures ∙ ap (λ (x : Transmitter). readOf x (a .offset)) (loaded .load-transmitter .ensures))
 
 pub read-transmitter-spec : {M : Type 1} → statement M
-read-transmitter-spec =
-    tie.close
-    (tie.spec
-    (λ c. search needs)
-    (λ c. search needs)
-    (λ c. search needs)
-    load-transmitter-requires
-    read-requires
-    store-transmitter-requires
-    (λ c. search needs)
-    returns)
+read-transmitter-spec = tie.close (tie.spec load-transmitter-requires read-requires store-transmitter-requires same-length returns)

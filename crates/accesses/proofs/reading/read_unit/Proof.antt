@@ -1,19 +1,28 @@
 -- At each return the tests that led there say which case of the rule holds.
-use borrow.Author.Needs.{needs}
 use borrow.Author.Tests.{eq-eqb, le-ltb, lt-ltb, ne-eqb}
-use mathlib.Core.Path.{refl}
 use Rattle.laws.specs.Pick.{past, here}
 use Rattle.accesses.proofs.reading.read_unit.Statement.{statement}
 use Rattle.accesses.proofs.reading.read_unit.Tie as tie
 
 returns : tie.Need-returns
-returns c = here _ (eq-eqb _ _ (c .before .before .before .before .if1 .taken)) (simp (c .before .before .read-master .ensures))
+returns c = here _ (eq-eqb _ _ (c .before .before .before .before .if1 .taken)) (c .before .before .read-section .ensures)
 
 returns-2 : tie.Need-returns-2
-returns-2 c = past _ (ne-eqb _ _ (c .before .before .before .before .before .if1 .left)) (here _ (lt-ltb _ _ (c .before .before .before .before .if2 .taken)) (simp (c .before .before .read-transmitter .ensures)))
+returns-2 c = past _ (ne-eqb _ _ (c .before .before .before .before .before .if1 .left)) (here _ (lt-ltb _ _ (c .before .before .before .before .if2 .taken)) (c .before .before .read-transmitter .ensures))
 
 returns-3 : tie.Need-returns-3
-returns-3 c = past _ (ne-eqb _ _ (c .before .before .before .before .before .if1 .left)) (past _ (le-ltb _ _ (c .before .before .before .before .if2 .left)) (simp (c .before .before .read-receiver .ensures)))
+returns-3 c = past _ (ne-eqb _ _ (c .before .before .before .before .before .if1 .left)) (past _ (le-ltb _ _ (c .before .before .before .before .if2 .left)) (c .before .before .read-receiver .ensures))
 
 pub read-unit-spec : {M : Type 1} → statement M
-read-unit-spec = tie.close (tie.spec (λ c. search needs) (λ c. search needs) returns (λ c. search needs) (λ c. search needs) returns-2 (λ c. search needs) (λ c. search needs) returns-3)
+read-unit-spec =
+    tie.close
+    (tie.spec
+    (λ c κs. c .before .before .before .pre)
+    (λ c. c .before .before .read-section .kept .0)
+    returns
+    (λ c κs. c .before .before .before .before .pre)
+    (λ c. c .before .before .read-transmitter .kept .0)
+    returns-2
+    (λ c κs. c .before .before .before .before .pre)
+    (λ c. c .before .before .read-receiver .kept .0)
+    returns-3)

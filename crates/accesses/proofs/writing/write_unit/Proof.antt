@@ -1,22 +1,35 @@
 -- At each return the tests that led there say which case of the rule holds.
-use borrow.Author.Needs.{needs}
 use borrow.Author.Tests.{eq-eqb, le-ltb, lt-ltb, ne-eqb}
-use mathlib.Core.Path.{refl}
 use Rattle.laws.specs.Pick.{past, here}
 use Rattle.accesses.proofs.writing.write_unit.Statement.{statement}
 use Rattle.accesses.proofs.writing.write_unit.Tie as tie
 
 returns : tie.Need-returns
-returns c = here _ (rw (c .before .before .before .before .before .asks-init .ensures) at (c .before .before .before .before .if1 .taken)) (simp (c .before .before .answer-init .ensures, c .before .before .before .before .before .asks-init .ensures))
+returns c = here _ (rw (c .before .before .before .before .before .asks-init .ensures) at (c .before .before .before .before .if1 .taken)) (c .before .before .reset-transmitter .ensures)
 
 returns-2 : tie.Need-returns-2
-returns-2 c = past _ (rw (c .before .before .before .before .before .before .asks-init .ensures) at (c .before .before .before .before .before .if1 .left)) (here _ (eq-eqb _ _ (c .before .before .before .before .if2 .taken)) (simp (c .before .before .write-master .ensures, c .before .before .before .before .before .before .asks-init .ensures)))
+returns-2 c = past _ (rw (c .before .before .before .before .before .before .asks-init .ensures) at (c .before .before .before .before .before .if1 .left)) (here _ (eq-eqb _ _ (c .before .before .before .before .if2 .taken)) (c .before .before .write-section .ensures))
 
 returns-3 : tie.Need-returns-3
-returns-3 c = past _ (rw (c .before .before .before .before .before .before .before .asks-init .ensures) at (c .before .before .before .before .before .before .if1 .left)) (past _ (ne-eqb _ _ (c .before .before .before .before .before .if2 .left)) (here _ (lt-ltb _ _ (c .before .before .before .before .if3 .taken)) (simp (c .before .before .write-transmitter .ensures, c .before .before .before .before .before .before .before .asks-init .ensures))))
+returns-3 c = past _ (rw (c .before .before .before .before .before .before .before .asks-init .ensures) at (c .before .before .before .before .before .before .if1 .left)) (past _ (ne-eqb _ _ (c .before .before .before .before .before .if2 .left)) (here _ (lt-ltb _ _ (c .before .before .before .before .if3 .taken)) (c .before .before .write-transmitter .ensures)))
 
 returns-4 : tie.Need-returns-4
-returns-4 c = past _ (rw (c .before .before .before .before .before .before .before .asks-init .ensures) at (c .before .before .before .before .before .before .if1 .left)) (past _ (ne-eqb _ _ (c .before .before .before .before .before .if2 .left)) (past _ (le-ltb _ _ (c .before .before .before .before .if3 .left)) (simp (c .before .before .write-receiver .ensures, c .before .before .before .before .before .before .before .asks-init .ensures))))
+returns-4 c = past _ (rw (c .before .before .before .before .before .before .before .asks-init .ensures) at (c .before .before .before .before .before .before .if1 .left)) (past _ (ne-eqb _ _ (c .before .before .before .before .before .if2 .left)) (past _ (le-ltb _ _ (c .before .before .before .before .if3 .left)) (c .before .before .write-receiver .ensures)))
 
 pub write-unit-spec : {M : Type 1} → statement M
-write-unit-spec = tie.close (tie.spec (λ c. search needs) (λ c. search needs) (λ c. search needs) returns (λ c. search needs) (λ c. search needs) returns-2 (λ c. search needs) (λ c. search needs) returns-3 (λ c. search needs) (λ c. search needs) returns-4)
+write-unit-spec =
+    tie.close
+    (tie.spec
+    (λ c κs. tt)
+    (λ c κs. c .before .before .before .before .pre)
+    (λ c. c .before .before .reset-transmitter .kept .0)
+    returns
+    (λ c κs. c .before .before .before .before .before .pre)
+    (λ c. c .before .before .write-section .kept .0)
+    returns-2
+    (λ c κs. c .before .before .before .before .before .before .pre)
+    (λ c. c .before .before .write-transmitter .kept .0)
+    returns-3
+    (λ c κs. c .before .before .before .before .before .before .pre)
+    (λ c. c .before .before .write-receiver .kept .0)
+    returns-4)

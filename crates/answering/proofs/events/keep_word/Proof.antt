@@ -4,7 +4,9 @@ use Rattle.answering.proofs.events.keep_word.Statement.{statement}
 use Rattle.answering.proofs.events.keep_word.Tie as tie
 
 returns : tie.Need-returns
-returns c = simp (c .before .before .before .put .ensures, c .before .before .before .before .before .parity-is-good .ensures, c .before .before .before .before .before .before .crc-with-word .ensures)
+returns c =
+    let p = c .before .before .before in
+    simp (p .put .ensures, p .before .parity-is-good .ensures, p .before .before .crc-with-word .ensures)
 
 pub keep-word-spec : {M : Type 1} → statement M
 keep-word-spec = tie.close (tie.spec (λ c. search needs) (λ c. search needs) (λ c. search needs) (λ c. search needs) returns)

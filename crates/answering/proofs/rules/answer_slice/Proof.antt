@@ -1,7 +1,7 @@
 -- What the calls gave, one into the next.
 use borrow.Author.Needs.{needs}
 use Rattle.answering.specs.Choice.{decided}
-use Rattle.answering.specs.Parts.{taken-apart}
+use Rattle.answering.specs.laws.Parts.{taken-apart}
 use Rattle.answering.proofs.rules.answer_slice.Statement.{statement}
 use Rattle.answering.proofs.rules.answer_slice.Tie as tie
 

@@ -2,23 +2,23 @@
 use borrow.Author.Needs.{needs}
 use mathlib.Core.Bool.{true}
 use mathlib.Core.List.{List}
-use mathlib.Core.Path.{_≡_, refl, ap, sym, _∙_}
-use Prim.Native.Nat.{ℕ, _+_, _-_, _≤_, _<_}
+use mathlib.Core.Path.{_≡_, refl, ap, _∙_}
+use Prim.Native.Nat.{ℕ, _-_, _≤_, _<_}
 use native.Mathlib.Numerals.{add-one}
 use native.Mathlib.Omega.{arith}
 use lib.ListN.{length}
-use Rattle.cells.specs.Fitted.{Fitted, transmitterOf, putTransmitter, fitted}
-use Rattle.cells.specs.FrameLaws.{count-kept}
+use Rattle.cells.specs.Fitted.{transmitterOf, fitted}
+use Rattle.cells.specs.laws.FrameLaws.{count-kept}
 use Rattle.cells.specs.Layout.{countIn}
-use Rattle.cells.specs.RangeLaws.{in-range-says}
+use Rattle.cells.specs.laws.RangeLaws.{in-range-says}
 use Rattle.cells.specs.Ranges.{inRange}
-use Rattle.cells.specs.StoreLaws.{transmitter-in-range}
+use Rattle.cells.specs.laws.StoreLaws.{transmitter-in-range}
 use Rattle.codec.specs.Limits.{Words}
-use Rattle.codec.specs.TransmitterLaws.{length-transmitter}
+use Rattle.codec.specs.laws.TransmitterLaws.{length-transmitter}
 use Rattle.codec.specs.Transmitters.{encTransmitter}
 use Rattle.transmitter.specs.Down.{masterMissed}
-use Rattle.transmitter.specs.Keeps.{within-missed}
-use Rattle.bus.specs.Masterless.{missedUpTo}
+use Rattle.transmitter.specs.laws.Keeps.{within-missed}
+use Rattle.bus.specs.Masterless.{missedAt, missedUpTo}
 use Rattle.bus.proofs.masterless.miss_masters.Statement.{statement}
 use Rattle.bus.proofs.masterless.miss_masters.Tie as tie
 
@@ -55,53 +55,37 @@ loop-holds c =
       missed = refl;
     }
 
--- the unit of this turn is fitted
-here-fitted : {cells₀ cells : List ℕ} {n unit : ℕ} → Turn cells₀ cells n unit → unit < n → Fitted cells unit
-here-fitted {cells₀} {cells} {n} {unit} t less = fitted cells (t .ok) (t .words) unit (omega (arith, t .all, t .count))
+-- the unit of this turn is one of those fitted
+there : {cells₀ cells : List ℕ} {n unit : ℕ} → Turn cells₀ cells n unit → unit < n → unit < countIn cells
+there t less = omega (arith, t .all, t .count)
 
-add-at : tie.Need-add-at Inv-loop μ-loop
-add-at c = let h = here-fitted (c .before .loop .inv) (c .loop-test .taken) .number in omega arith
-
-add-at-2 : tie.Need-add-at-2 Inv-loop μ-loop
-add-at-2 c = let h = here-fitted (c .before .loop .inv) (c .loop-test .taken) .number in omega arith
-
-mul-at : tie.Need-mul-at Inv-loop μ-loop
-mul-at c = let h = here-fitted (c .before .loop .inv) (c .loop-test .taken) .number in omega arith
-
-load-transmitter-requires : tie.Need-load-transmitter-requires Inv-loop μ-loop
-load-transmitter-requires c κs = omega (arith, here-fitted (c .before .before .loop .inv) (c .before .loop-test .taken) .room)
-
-store-transmitter-requires : tie.Need-store-transmitter-requires Inv-loop μ-loop
-store-transmitter-requires c κs =
-    let tested = c .before .before .before .before in
-    let f = here-fitted (tested .before .loop .inv) (tested .loop-test .taken) in
-    (omega (arith, f .room), rw (c .miss-master .ensures, c .before .before .load-transmitter .ensures) (within-missed _ (f .transmitter)))
+miss-at-requires : tie.Need-miss-at-requires Inv-loop μ-loop
+miss-at-requires c κs =
+    let l = c .before .before .loop in
+    fitted (l .cells) (l .inv .ok) (l .inv .words) (l .unit) (there (l .inv) (c .before .loop-test .taken))
 
 loop-again : tie.Need-loop-again Inv-loop μ-loop
 unfolding missedUpTo
 loop-again c =
-    let kept = c .before .before in
-    let ruled = kept .before in
-    let taken = ruled .before .before in
-    let tested = taken .before .before in
+    let stored = c .before .before in
+    let tested = stored .before .before in
     let l = tested .before .loop in
     let inv = l .inv in
-    let f = here-fitted inv (tested .loop-test .taken) in
     let s = l .cells in
     let u = l .unit in
+    let here = there inv (tested .loop-test .taken) in
     let t = masterMissed (transmitterOf s u) in
-    let h = within-missed (transmitterOf s u) (f .transmitter) in
-    let e = kept .store-transmitter .ensures ∙ ap (putTransmitter s u) (ruled .miss-master .ensures ∙ ap masterMissed (taken .load-transmitter .ensures)) in
-    let less : u < countIn s = omega (arith, inv .all, inv .count, tested .loop-test .taken) in
+    let h = within-missed (transmitterOf s u) (fitted s (inv .ok) (inv .words) u here .transmitter) in
     let long = length-transmitter t h in
+    let e = stored .miss-at .ensures in
     record {
-      below = omega arith;
+      below = omega (arith, tested .loop-test .taken);
       all = inv .all;
-      long = omega (arith, kept .store-transmitter .kept .0, inv .long);
-      ok = rw e (transmitter-in-range s (inv .ok) u less t h);
-      count = rw e (count-kept s (inv .ok) u less 4 (encTransmitter t) (omega arith)) ∙ inv .count;
+      long = stored .miss-at .kept .0 ∙ inv .long;
+      ok = rw e (transmitter-in-range s (inv .ok) u here t h);
+      count = rw e (count-kept s (inv .ok) u here 4 (encTransmitter t) (omega arith)) ∙ inv .count;
       words = record { word = λ i. c .slice-known2 .given i .fits };
-      missed = rw add-one (e ∙ ap (λ (x : List ℕ). putTransmitter x u (masterMissed (transmitterOf x u))) (inv .missed));
+      missed = rw add-one (e ∙ ap (λ (x : List ℕ). missedAt x u) (inv .missed));
     }
 
 same-length : tie.Need-same-length Inv-loop μ-loop
@@ -109,9 +93,10 @@ same-length c = c .before .loop .inv .long
 
 returns : tie.Need-returns Inv-loop μ-loop
 returns c =
-    let inv = c .before .loop .inv in
-    let e : c .before .loop .unit ≡ countIn (c .before .before .before .before .before .args .cells .now) = omega (arith, inv .all, inv .below, c .loop-test .left) in
-    inv .missed ∙ ap (λ (n : ℕ). missedUpTo n (c .before .before .before .before .before .args .cells .now)) e
+    let l = c .before .loop in
+    let s = c .before .before .before .before .before .args .cells .now in
+    let e : l .unit ≡ countIn s = omega (arith, l .inv .all, l .inv .below, c .loop-test .left) in
+    l .inv .missed ∙ ap (λ (n : ℕ). missedUpTo n s) e
 
 pub miss-masters-spec : {M : Type 1} → statement M
 miss-masters-spec =
@@ -121,12 +106,7 @@ miss-masters-spec =
     μ-loop
     count-requires
     loop-holds
-    mul-at
-    add-at
-    add-at-2
-    load-transmitter-requires
-    (λ c. search needs)
-    store-transmitter-requires
+    miss-at-requires
     (λ c. search needs)
     (λ c. search needs)
     loop-again

@@ -3,49 +3,40 @@ use borrow.Author.Needs.{needs}
 use mathlib.Core.List.{List}
 use mathlib.Core.Path.{ap, _∙_}
 use Prim.Native.Nat.{ℕ, _+_}
-use native.Mathlib.Omega.{arith}
-use lib.ListN.{set, length-set}
 use Rattle.cells.specs.Fitted.{putMaster}
-use Rattle.master.specs.Laws.{within-taken-over}
+use Rattle.cells.specs.laws.RoomLaws.{header-room}
+use Rattle.cells.specs.Layout.{putHolder}
+use Rattle.master.specs.laws.Laws.{within-taken-over}
 use Rattle.master.specs.Section.{takenOver}
 use Rattle.bus.proofs.masterless.take_over.Statement.{statement}
 use Rattle.bus.proofs.masterless.take_over.Tie as tie
 
 load-master-requires : tie.Need-load-master-requires
-load-master-requires c κs = omega (arith, c .before .before .pre .room)
+load-master-requires c κs = let f = c .before .before .pre in (f .number, f .room)
 
 store-master-requires : tie.Need-store-master-requires
 store-master-requires c κs =
-    let start = c .before .before .before .before .before in
-    (omega (arith, start .pre .room), rw (c .take-over .ensures, c .before .before .load-master .ensures) (within-taken-over _ (start .pre .master)))
+    let f = c .before .before .before .before .before .pre in
+    ((f .number, f .room), rw (c .before .take-over .ensures, c .before .before .load-master .ensures) (within-taken-over _ (f .master)))
 
-slice-write-cells : tie.Need-slice-write-cells
-slice-write-cells c = omega (arith, c .before .before .store-master .kept .0, c .before .before .before .before .before .before .before .before .pre .room)
+put-holder-requires : tie.Need-put-holder-requires
+put-holder-requires c κs = rw (c .before .before .before .store-master .kept .0) (header-room _ _ (c .before .before .before .before .before .before .before .before .before .pre .room))
 
 same-length : tie.Need-same-length
-same-length c = simp length-set (omega (arith, c .before .before .store-master .kept .0))
+same-length c = c .before .before .put-holder .kept .0 ∙ c .before .before .before .before .before .before .store-master .kept .0
 
 returns : tie.Need-returns
 returns c =
-    let kept = c .before .before in
-    let ruled = kept .before in
-    let taken = ruled .before .before in
-    let a = taken .before .before .before .args in
-    ap (λ (l : List ℕ). set l 1 (a .unit + 1))
-    (kept .store-master .ensures ∙ ap (putMaster (a .cells .now) (a .unit)) (ruled .take-over .ensures ∙ ap takenOver (taken .load-master .ensures)))
+    let named = c .before .before in
+    let stored = named .before .before .before .before in
+    let ruled = stored .before .before in
+    let loaded = ruled .before in
+    let a = loaded .before .before .before .args in
+    named .put-holder .ensures
+    ∙ ap (λ (l : List ℕ). putHolder l (a .unit + 1))
+    (stored .store-master .ensures ∙ ap (putMaster (a .cells .now) (a .unit)) (ruled .take-over .ensures ∙ ap takenOver (loaded .load-master .ensures)))
 
 pub take-over-spec : {M : Type 1} → statement M
 take-over-spec =
     tie.close
-    (tie.spec
-    (λ c. search needs)
-    (λ c. search needs)
-    (λ c. search needs)
-    load-master-requires
-    (λ c. search needs)
-    store-master-requires
-    (λ c. search needs)
-    (λ c. search needs)
-    slice-write-cells
-    same-length
-    returns)
+    (tie.spec (λ c. search needs) (λ c. search needs) load-master-requires (λ c κs. tt) store-master-requires put-holder-requires same-length returns)

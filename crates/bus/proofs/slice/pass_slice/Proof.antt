@@ -7,7 +7,7 @@ use Prim.Native.Nat.{ℕ, _-_, _<_}
 use native.Mathlib.Omega.{arith}
 use Rattle.cells.specs.Fitted.{fitted}
 use Rattle.cells.specs.Layout.{countIn, holderIn}
-use Rattle.cells.specs.RangeLaws.{in-range-says}
+use Rattle.cells.specs.laws.RangeLaws.{in-range-says}
 use Rattle.laws.specs.Pick.{past, here}
 use Rattle.bus.specs.Slice.{slotOf, masterSlice}
 use Rattle.bus.specs.declared.slice.Slot.{Slot}
@@ -48,10 +48,10 @@ pass-slice-spec =
     (tie.spec
     holder-requires
     (λ c. search needs)
-    (λ c. search needs)
-    (λ c. search needs)
+    (λ c κs. c .before .before .before .before .before .pre)
+    (λ c. c .before .before .pass-masterless .kept .0)
     returns
     (λ c. search needs)
     serve-next-requires
-    (λ c. search needs)
+    (λ c. c .before .before .serve-next .kept .0)
     returns-2)

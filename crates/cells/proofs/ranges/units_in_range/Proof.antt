@@ -6,7 +6,7 @@ use mathlib.Core.Path.{_≡_, refl, sym, _∙_}
 use Prim.Native.Nat.{_-_, _≤_}
 use native.Mathlib.Numerals.{add-one}
 use native.Mathlib.Omega.{arith}
-use Rattle.cells.specs.RangeLaws.{both, unit-fails}
+use Rattle.cells.specs.laws.RangeLaws.{both, unit-fails}
 use Rattle.cells.specs.Ranges.{unitsInRange}
 use Rattle.cells.proofs.ranges.units_in_range.Statement.{statement}
 use Rattle.cells.proofs.ranges.units_in_range.Tie as tie

@@ -3,7 +3,7 @@ use borrow.Author.Needs.{needs}
 use mathlib.Core.Path.{_≡_}
 use native.Mathlib.Omega.{arith}
 use lib.ListN.{length}
-use Rattle.codec.specs.WindowLaws.{laid}
+use Rattle.codec.specs.laws.WindowLaws.{laid}
 use Rattle.codec.proofs.ends.join.Statement.{statement}
 use Rattle.codec.proofs.ends.join.Tie as tie
 

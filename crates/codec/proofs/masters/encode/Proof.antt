@@ -3,7 +3,7 @@ use borrow.Author.Needs.{needs}
 use mathlib.Core.Path.{refl}
 use native.Mathlib.Omega.{arith}
 use Rattle.codec.specs.Masters.{masterHead}
-use Rattle.codec.specs.WindowLaws.{laid}
+use Rattle.codec.specs.laws.WindowLaws.{laid}
 use Rattle.codec.proofs.masters.encode.Statement.{statement}
 use Rattle.codec.proofs.masters.encode.Tie as tie
 

@@ -1,6 +1,6 @@
 -- The section's word fits (`section-lt`).
 use native.Mathlib.Omega.{arith}
-use Rattle.codec.specs.MasterLaws.{section-lt}
+use Rattle.codec.specs.laws.MasterLaws.{section-lt}
 use Rattle.codec.proofs.masters.head.Statement.{statement}
 use Rattle.codec.proofs.masters.head.Tie as tie
 

@@ -1,7 +1,7 @@
 -- The bits make a word (`command-lt`).
 use borrow.Author.Needs.{needs}
 use native.Mathlib.Omega.{arith}
-use Rattle.codec.specs.ReceiverWords.{command-lt}
+use Rattle.codec.specs.laws.ReceiverWords.{command-lt}
 use Rattle.codec.proofs.receivers.command_word.Statement.{statement}
 use Rattle.codec.proofs.receivers.command_word.Tie as tie
 

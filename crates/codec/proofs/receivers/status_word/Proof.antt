@@ -1,6 +1,6 @@
 -- The bits make a word (`status-lt`).
 use borrow.Author.Needs.{needs}
-use Rattle.codec.specs.ReceiverWords.{status-lt}
+use Rattle.codec.specs.laws.ReceiverWords.{status-lt}
 use Rattle.codec.proofs.receivers.status_word.Statement.{statement}
 use Rattle.codec.proofs.receivers.status_word.Tie as tie
 

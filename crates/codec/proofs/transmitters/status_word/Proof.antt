@@ -1,6 +1,6 @@
 -- The bits make a word (`status-lt`).
 use borrow.Author.Needs.{needs}
-use Rattle.codec.specs.TransmitterWords.{status-lt}
+use Rattle.codec.specs.laws.TransmitterWords.{status-lt}
 use Rattle.codec.proofs.transmitters.status_word.Statement.{statement}
 use Rattle.codec.proofs.transmitters.status_word.Tie as tie
 

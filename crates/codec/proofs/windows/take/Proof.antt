@@ -7,7 +7,7 @@ use native.Mathlib.Omega.{arith}
 use lib.ListN.{length, drop, length-set}
 use lib.Seq.{drop-length}
 use Rattle.codec.specs.Window.{window}
-use Rattle.codec.specs.WindowLaws.{copied}
+use Rattle.codec.specs.laws.WindowLaws.{copied}
 use Rattle.codec.proofs.windows.take.Statement.{statement}
 use Rattle.codec.proofs.windows.take.Tie as tie
 

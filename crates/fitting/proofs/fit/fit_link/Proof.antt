@@ -6,7 +6,7 @@ use Prim.Native.Nat.{ℕ}
 use native.Mathlib.Omega.{arith}
 use Rattle.codec.specs.Window.{splice}
 use Rattle.fitting.specs.SetUp.{countOf}
-use Rattle.fitting.specs.SetUpLaws.{good-says}
+use Rattle.fitting.specs.laws.SetUpLaws.{good-says}
 use Rattle.fitting.proofs.fit.fit_link.Statement.{statement}
 use Rattle.fitting.proofs.fit.fit_link.Tie as tie
 

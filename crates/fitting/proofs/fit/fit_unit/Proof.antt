@@ -5,10 +5,10 @@ use mathlib.Core.Path.{ap, _∙_}
 use Prim.Native.Nat.{ℕ}
 use native.Mathlib.Omega.{arith}
 use Rattle.cells.specs.Fitted.{putTransmitter, putReceiver, putMaster}
-use Rattle.master.specs.Laws as M
+use Rattle.master.specs.laws.Laws as M
 use Rattle.master.specs.Side.{initial}
-use Rattle.receiver.specs.Keeps as R
-use Rattle.transmitter.specs.Keeps as T
+use Rattle.receiver.specs.laws.Keeps as R
+use Rattle.transmitter.specs.laws.Keeps as T
 use Rattle.fitting.proofs.fit.fit_unit.Statement.{statement}
 use Rattle.fitting.proofs.fit.fit_unit.Tie as tie
 

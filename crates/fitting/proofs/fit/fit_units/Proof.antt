@@ -10,7 +10,7 @@ use lib.ListN.{length}
 use Rattle.cells.specs.Layout.{unitPlace}
 use Rattle.fitting.specs.Fit.{unitsFitted, unitOf}
 use Rattle.fitting.specs.SetUp.{countOf, setUpGood}
-use Rattle.fitting.specs.SetUpLaws.{UnitGood, good-says}
+use Rattle.fitting.specs.laws.SetUpLaws.{UnitGood, good-says}
 use Rattle.fitting.proofs.fit.fit_units.Statement.{statement}
 use Rattle.fitting.proofs.fit.fit_units.Tie as tie
 

@@ -2,7 +2,7 @@
 use borrow.Author.Needs.{needs}
 use mathlib.Core.Bool.{not}
 use native.Mathlib.Omega.{arith}
-use Rattle.master.specs.Reading.{tmmr-lt}
+use Rattle.master.specs.laws.ReadingLaws.{tmmr-lt}
 use Rattle.master.proofs.registers.tmmr_word.Statement.{statement}
 use Rattle.master.proofs.registers.tmmr_word.Tie as tie
 

@@ -4,7 +4,8 @@ use borrow.Author.Tests.{le-leb, lt-leb}
 use Prim.Native.Nat.{_<_, _≤_}
 use native.Mathlib.Omega.{arith}
 use lib.ListN.{length}
-use Rattle.master.specs.Ring.{addressesIn, length-addresses}
+use Rattle.master.specs.Ring.{addressesIn}
+use Rattle.master.specs.laws.RingLaws.{length-addresses}
 use Rattle.master.proofs.ring.may_start.Statement.{statement}
 use Rattle.master.proofs.ring.may_start.Tie as tie
 

@@ -4,7 +4,8 @@ use mathlib.Core.Path.{_≡_, ap, sym, _∙_}
 use Prim.Native.Nat.{_-_, _≤_, _<_}
 use native.Mathlib.Omega.{arith}
 use lib.ListN.{drop, getD, length}
-use Rattle.master.specs.Ring.{address, addressesIn, lastOf, differ, length-addresses, address-at}
+use Rattle.master.specs.Ring.{address, addressesIn, lastOf, differ}
+use Rattle.master.specs.laws.RingLaws.{length-addresses, address-at}
 use Rattle.master.proofs.Around.{same, other, none-left}
 use Rattle.master.proofs.ring.neighbours_differ.Statement.{statement}
 use Rattle.master.proofs.ring.neighbours_differ.Tie as tie

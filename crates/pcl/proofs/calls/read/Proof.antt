@@ -1,39 +1,38 @@
--- The two guards, and then the function on a fitted unit.
-use borrow.Author.Needs.{needs}
-use borrow.Author.Tests.{le-leb, lt-leb, not-false}
-use mathlib.Core.List.{List}
-use mathlib.Core.Path.{refl, ap}
-use Prim.Native.Nat.{ℕ}
-use Rattle.cells.specs.RangeLaws.{in-range-says}
-use Rattle.laws.specs.Pick.{past, here}
+-- What the admission leads to: a refusal, or the function on a fitted unit.
+use mathlib.Core.Path.{refl, ap, sym, _∙_}
 use Rattle.pcl.specs.Calls.{readBy}
-use Rattle.cells.specs.Fitted.{fitted}
+use Rattle.pcl.specs.laws.Admitted.{goes-on, at-unit}
 use Rattle.pcl.proofs.calls.read.Statement.{statement}
 use Rattle.pcl.proofs.calls.read.Tie as tie
 
-returns : tie.Need-returns
-returns c = here _ (rw (c .before .in-range .ensures) at (c .if1 .taken)) refl
-
-count-requires : tie.Need-count-requires
-count-requires c κs =
-    in-range-says (c .before .before .before .before .before .args .cells .now) (not-false _ (rw (c .before .before .in-range .ensures) at (c .before .if1 .left))) .header
-
-returns-2 : tie.Need-returns-2
-returns-2 c =
-    past _ (rw (c .before .before .before .before .in-range .ensures) at (c .before .before .before .if1 .left))
-    (here _ (le-leb _ _ (rw (c .before .count .ensures) at (c .if2 .taken))) refl)
-
 read-unit-requires : tie.Need-read-unit-requires
 read-unit-requires c κs =
-    let known = c .before .before .before .before .before .before .before in
-    let a = known .before .args in
-    fitted (a .cells .now) (not-false _ (rw (c .before .before .before .before .before .in-range .ensures) at (c .before .before .before .before .if1 .left))) (record { word = λ i. known .slice-known .given i .fits }) (a .unit)
-    (rw (c .before .before .count .ensures) at (c .before .if2 .left))
+    at-unit _ _ (sym (c .before .before .before .admit .ensures) ∙ c .before .enum-told3 .given .1)
+    (record { word = λ i. c .before .before .before .before .before .slice-known .given i .fits })
+
+returns : tie.Need-returns
+returns c = goes-on _ _ _ _ _ (sym (c .before .before .admit .ensures) ∙ c .enum-told .given .1) refl
+
+returns-2 : tie.Need-returns-2
+returns-2 c = goes-on _ _ _ _ _ (sym (c .before .before .admit .ensures) ∙ c .enum-told2 .given .1) refl
 
 returns-3 : tie.Need-returns-3
 returns-3 c =
-    past _ (rw (c .before .before .before .before .before .before .before .before .in-range .ensures) at (c .before .before .before .before .before .before .before .if1 .left))
-    (past _ (lt-leb _ _ (rw (c .before .before .before .before .before .count .ensures) at (c .before .before .before .before .if2 .left))) (ap readBy (c .before .before .read-unit .ensures)))
+    goes-on _ _ _ _ _ (sym (c .before .before .before .before .before .before .admit .ensures) ∙ c .before .before .before .before .enum-told3 .given .1)
+    (ap readBy (c .before .before .read-unit .ensures))
 
 pub read-spec : {M : Type 1} → statement M
-read-spec = tie.close (tie.spec (λ c. search needs) (λ c. search needs) returns count-requires (λ c. search needs) returns-2 read-unit-requires (λ c. search needs) returns-3)
+read-spec =
+    tie.close
+    (tie.spec
+    (λ c κs. tt)
+    (λ c. c .match .keys1)
+    (λ c. c .match .keys2)
+    (λ c. c .match .keys3)
+    read-unit-requires
+    (λ c. refl)
+    returns
+    (λ c. refl)
+    returns-2
+    (λ c. c .before .cells .given)
+    returns-3)

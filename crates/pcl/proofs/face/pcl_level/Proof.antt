@@ -1,5 +1,4 @@
 -- The call, and its number.
-use borrow.Author.Needs.{needs}
 use mathlib.Core.Path.{ap, _∙_}
 use Rattle.pcl.specs.Numbers.{levelPacked}
 use Rattle.pcl.proofs.face.pcl_level.Statement.{statement}
@@ -12,6 +11,6 @@ pub pcl-level-spec : {M : Type 1} → statement M
 pcl-level-spec =
     tie.close
     (tie.spec
-    (λ c. search needs)
-    (λ c. search needs)
+    (λ c κs. tt)
+    (λ c κs. tt)
     returns)

@@ -1,5 +1,4 @@
 -- The call, and its number.
-use borrow.Author.Needs.{needs}
 use mathlib.Core.Path.{ap}
 use Rattle.pcl.specs.Face.{packedMove}
 use Rattle.pcl.proofs.face.pcl_move.Statement.{statement}
@@ -12,8 +11,8 @@ pub pcl-move-spec : {M : Type 1} → statement M
 pcl-move-spec =
     tie.close
     (tie.spec
-    (λ c. search needs)
-    (λ c. search needs)
-    (λ c. search needs)
-    (λ c. search needs)
+    (λ c κs. tt)
+    (λ c κs. tt)
+    (λ c. c .before .before .before .before .cells .given)
+    (λ c. c .before .before .memory .given)
     returns)

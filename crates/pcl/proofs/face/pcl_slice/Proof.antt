@@ -1,11 +1,10 @@
 -- The call, and its number: what it gives fits in the bits there are (`narrow`).
-use borrow.Author.Needs.{needs}
 use mathlib.Core.List.{List}
 use mathlib.Core.Path.{ap}
 use Prim.Native.Nat.{ℕ}
-use Rattle.pcl.specs.Bounds.{narrow}
-use Rattle.pcl.specs.Face.{packed}
-use Rattle.pcl.specs.Numbers.{slicePacked, NarrowCall}
+use Rattle.pcl.specs.laws.Bounds.{narrow}
+use Rattle.pcl.specs.Numbers.{slicePacked}
+use Rattle.pcl.specs.laws.Packed.{packed-as}
 use Rattle.pcl.specs.declared.answers.SliceCall.{SliceCall}
 use Rattle.pcl.proofs.face.pcl_slice.Statement.{statement}
 use Rattle.pcl.proofs.face.pcl_slice.Tie as tie
@@ -17,13 +16,13 @@ pack-slice-requires c κs =
     rw (ap (λ (p : SliceCall × List ℕ). p .0) (c .before .before .slice .ensures)) (narrow (a .cells .now) (record { word = λ i. known .slice-known .given i .fits }) (a .mask) (a .parity))
 
 returns : tie.Need-returns
-returns c = rw (c .pack-slice .ensures) (ap (packed slicePacked) (c .before .before .before .slice .ensures))
+returns c = packed-as slicePacked (c .pack-slice .ensures) (c .before .before .before .slice .ensures)
 
 pub pcl-slice-spec : {M : Type 1} → statement M
 pcl-slice-spec =
     tie.close
     (tie.spec
-    (λ c. search needs)
+    (λ c κs. tt)
     pack-slice-requires
-    (λ c. search needs)
+    (λ c. c .before .before .cells .given)
     returns)

@@ -1,13 +1,11 @@
 -- The two guards, and then the fit: a good set-up names at most 16 units, so that there is room for them all.
-use borrow.Author.Needs.{needs}
 use borrow.Author.Tests.{lt-ltb, le-ltb, not-false}
 use mathlib.Core.List.{List}
-use mathlib.Core.Path.{_≡_, refl, ap, sym, _∙_}
+use mathlib.Core.Path.{_≡_, refl, ap, sym}
 use Prim.Native.Nat.{ℕ}
-use native.Mathlib.Omega.{arith}
 use Rattle.cells.specs.Layout.{unitPlace}
 use Rattle.fitting.specs.SetUp.{countOf}
-use Rattle.fitting.specs.SetUpLaws.{good-says}
+use Rattle.fitting.specs.laws.SetUpLaws.{good-says}
 use Rattle.laws.specs.Pick.{past, here}
 use Rattle.pcl.specs.Link.{roomFor}
 use Rattle.pcl.specs.declared.answers.FitCall.{FitCall}
@@ -39,10 +37,10 @@ pub fit-spec : {M : Type 1} → statement M
 fit-spec =
     tie.close
     (tie.spec
-    (λ c. search needs)
+    (λ c κs. tt)
     returns
-    (λ c. search needs)
+    (λ c κs. tt)
     returns-2
     fit-link-requires
-    (λ c. search needs)
+    (λ c. c .before .cells .given)
     returns-3)

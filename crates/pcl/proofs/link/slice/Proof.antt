@@ -1,5 +1,4 @@
 -- The two guards, and then the slice.
-use borrow.Author.Needs.{needs}
 use borrow.Author.Tests.{lt-ltb, le-ltb, not-false}
 use mathlib.Core.Path.{refl, ap}
 use Rattle.laws.specs.Pick.{past, here}
@@ -25,11 +24,11 @@ pub slice-spec : {M : Type 1} → statement M
 slice-spec =
     tie.close
     (tie.spec
-    (λ c. search needs)
-    (λ c. search needs)
+    (λ c κs. tt)
+    (λ c. refl)
     returns
-    (λ c. search needs)
+    (λ c. refl)
     returns-2
     pass-slice-requires
-    (λ c. search needs)
+    (λ c. c .before .cells .given)
     returns-3)

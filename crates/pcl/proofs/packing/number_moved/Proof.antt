@@ -1,5 +1,4 @@
 -- Each arm has its number.
-use borrow.Author.Needs.{needs}
 use Rattle.pcl.proofs.packing.number_moved.Statement.{statement}
 use Rattle.pcl.proofs.packing.number_moved.Tie as tie
 
@@ -13,7 +12,7 @@ pub number-moved-spec : {M : Type 1} → statement M
 number-moved-spec =
     tie.close
     (tie.spec
-    (λ c. search needs)
-    (λ c. search needs)
+    (λ c. c .match .keys1)
+    (λ c. c .match .keys2)
     returns
     returns-2)

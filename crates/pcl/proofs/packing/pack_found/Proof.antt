@@ -14,4 +14,4 @@ returns-3 : tie.Need-returns-3
 returns-3 c = rw (c .enum-told2 .given .1)
 
 pub pack-found-spec : {M : Type 1} → statement M
-pack-found-spec = tie.close (tie.spec (λ c. search needs) (λ c. search needs) (λ c. search needs) (λ c. search needs) (λ c. search needs) returns returns-2 returns-3)
+pack-found-spec = tie.close (tie.spec (λ c. c .match .keys1) (λ c. search needs) (λ c. search needs) (λ c. c .match .keys2) (λ c. c .match .keys3) returns returns-2 returns-3)

@@ -1,9 +1,7 @@
 -- A level stands above the number, which is 0 with it.
 use borrow.Author.Needs.{needs}
-use mathlib.Core.Bool.{Bool}
 use native.Mathlib.Omega.{arith}
-use Rattle.laws.specs.Bits.{bit}
-use Rattle.laws.specs.Fields.{bit-lt}
+use Rattle.laws.specs.laws.Fields.{bit-lt}
 use Rattle.pcl.proofs.packing.pack_level.Statement.{statement}
 use Rattle.pcl.proofs.packing.pack_level.Tie as tie
 
@@ -23,9 +21,9 @@ pub pack-level-spec : {M : Type 1} → statement M
 pack-level-spec =
     tie.close
     (tie.spec
-    (λ c. search needs)
-    (λ c. search needs)
-    (λ c. search needs)
+    (λ c. c .match .keys1)
+    (λ c. c .match .keys2)
+    (λ c. c .match .keys3)
     (λ c. search needs)
     mul-result
     returns

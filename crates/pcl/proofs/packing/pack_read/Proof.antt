@@ -1,7 +1,4 @@
 -- At each return the tests that led there say which case of the rule holds.
-use borrow.Author.Needs.{needs}
-use mathlib.Core.Path.{refl}
-use Rattle.laws.specs.Pick.{past, here}
 use Rattle.pcl.proofs.packing.pack_read.Statement.{statement}
 use Rattle.pcl.proofs.packing.pack_read.Tie as tie
 
@@ -15,4 +12,4 @@ returns-3 : tie.Need-returns-3
 returns-3 c = rw (c .before .before .call .given .1) (c .pack-found .ensures)
 
 pub pack-read-spec : {M : Type 1} → statement M
-pack-read-spec = tie.close (tie.spec (λ c. search needs) (λ c. search needs) (λ c. search needs) (λ c. search needs) returns returns-2 returns-3)
+pack-read-spec = tie.close (tie.spec (λ c. c .match .keys1) (λ c. c .match .keys2) (λ c. c .match .keys3) (λ c κs. tt) returns returns-2 returns-3)

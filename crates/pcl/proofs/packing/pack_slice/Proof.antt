@@ -1,6 +1,4 @@
 -- What the slice gives, packed.
-use borrow.Author.Needs.{needs}
-use Rattle.pcl.specs.Numbers.{NarrowCall}
 use Rattle.pcl.proofs.packing.pack_slice.Statement.{statement}
 use Rattle.pcl.proofs.packing.pack_slice.Tie as tie
 
@@ -20,9 +18,9 @@ pub pack-slice-spec : {M : Type 1} → statement M
 pack-slice-spec =
     tie.close
     (tie.spec
-    (λ c. search needs)
-    (λ c. search needs)
-    (λ c. search needs)
+    (λ c. c .match .keys1)
+    (λ c. c .match .keys2)
+    (λ c. c .match .keys3)
     pack-slot-requires
     returns
     returns-2

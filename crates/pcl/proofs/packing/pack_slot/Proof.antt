@@ -1,8 +1,5 @@
 -- The address and the codes stand above the number, which is 0 with them.
-use borrow.Author.Needs.{needs}
-use mathlib.Core.Path.{_∙_}
 use native.Mathlib.Omega.{arith}
-use Rattle.pcl.specs.Numbers.{NarrowSlot}
 use Rattle.pcl.proofs.packing.pack_slot.Statement.{statement}
 use Rattle.pcl.proofs.packing.pack_slot.Tie as tie
 
@@ -19,8 +16,8 @@ pub pack-slot-spec : {M : Type 1} → statement M
 pack-slot-spec =
     tie.close
     (tie.spec
-    (λ c. search needs)
-    (λ c. search needs)
+    (λ c. c .match .keys1)
+    (λ c. c .match .keys2)
     pack-given-requires
     returns
     returns-2)

@@ -3,7 +3,7 @@ use borrow.Author.Needs.{needs}
 use mathlib.Core.Path.{refl, ap, sym, _∙_}
 use native.Mathlib.Omega.{arith}
 use Rattle.laws.specs.Pick.{past, here}
-use Rattle.words.specs.Address.{inside-lt}
+use Rattle.words.specs.laws.AddressLaws.{inside-lt}
 use Rattle.receiver.specs.Moves.{movedTo}
 use Rattle.receiver.proofs.moves.move_word.Statement.{statement}
 use Rattle.receiver.proofs.moves.move_word.Tie as tie
@@ -31,7 +31,7 @@ store-word-requires c κs =
     let placed = c .before .before .before .before in
     let a = placed .before .before .before .before .before .before .args in
     let at = c .before .before .at .given in
-    let inside = inside-lt (a .r .load .address .0) (a .length) (at .0 .0) (sym (placed .find-place .ensures) ∙ at .1) in
+    let inside = inside-lt (a .r .load .address .0) (a .fitted) (at .0 .0) (sym (placed .find-place .ensures) ∙ at .1) in
     (search needs, omega arith)
 
 returns-4 : tie.Need-returns-4

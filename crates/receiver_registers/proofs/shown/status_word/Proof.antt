@@ -1,18 +1,12 @@
--- The bits make a word (`status-lt`), and the calls say which.
+-- What the calls gave.
 use borrow.Author.Needs.{needs}
-use Rattle.receiver_registers.specs.Shown.{status-lt}
 use Rattle.receiver_registers.proofs.shown.status_word.Statement.{statement}
 use Rattle.receiver_registers.proofs.shown.status_word.Tie as tie
-
-status-sum-requires : tie.Need-status-sum-requires
-status-sum-requires c κs =
-    let start = c .before .before .before in
-    status-lt (start .args .r) (c .before .before .is-busy .result) (c .before .is-data-out-ready .result) (c .has-error .result) (start .pre)
 
 returns : tie.Need-returns
 returns c =
     let asked = c .before in
-    simp (c .status-sum .ensures, asked .has-error .ensures, asked .before .is-data-out-ready .ensures, asked .before .before .is-busy .ensures)
+    simp (c .status-bits .ensures, asked .has-error .ensures, asked .before .is-data-out-ready .ensures, asked .before .before .is-busy .ensures)
 
 pub status-word-spec : {M : Type 1} → statement M
-status-word-spec = tie.close (tie.spec (λ c. search needs) (λ c. search needs) (λ c. search needs) status-sum-requires returns)
+status-word-spec = tie.close (tie.spec (λ c. search needs) (λ c. search needs) (λ c. search needs) (λ c. search needs) returns)

@@ -10,56 +10,56 @@ use Rattle.script.proofs.calls.call_of.Tie as tie
 returns : tie.Need-returns
 unfolding callOf
 returns c =
-    let k = c .before .before .before .before .before in
-    rw (← k .word-at .ensures, c .before .match .keys1) (c .fit-of .ensures)
+    let d = c .before .before in
+    rw (← d .before .before .before .word-at .ensures, ← d .before .before .byte-at .ensures, c .before .match .keys1) (c .sized .ensures)
 
 returns-2 : tie.Need-returns-2
 unfolding callOf
 returns-2 c =
     let d = c .before .before .before in
-    rw (← d .before .before .before .word-at .ensures, ← d .before .before .byte-at .ensures, ← d .before .byte-at2 .ensures, ← c .before .word-at2 .ensures, c .before .before .match .keys2) (c .sized .ensures)
+    rw (← d .before .before .before .word-at .ensures, ← d .before .before .byte-at .ensures, ← d .before .byte-at2 .ensures, ← c .before .word-at2 .ensures, c .before .before .match .keys2) (c .sized2 .ensures)
 
 returns-3 : tie.Need-returns-3
 unfolding callOf
 returns-3 c =
     let d = c .before .before in
-    rw (← d .before .before .before .word-at .ensures, ← d .before .before .byte-at .ensures, ← d .before .byte-at2 .ensures, c .before .match .keys3) (c .sized2 .ensures)
+    rw (← d .before .before .before .word-at .ensures, ← d .before .before .byte-at .ensures, ← d .before .byte-at2 .ensures, c .before .match .keys3) (c .sized3 .ensures)
 
 returns-4 : tie.Need-returns-4
 unfolding callOf
 returns-4 c =
     let d = c .before .before .before in
-    rw (← d .before .before .before .word-at .ensures, ← c .before .word-at3 .ensures, ← d .byte-at3 .ensures, c .before .before .match .keys4) (c .sized3 .ensures)
+    rw (← d .before .before .before .word-at .ensures, ← c .before .word-at3 .ensures, ← d .byte-at3 .ensures, c .before .before .match .keys4) (c .sized4 .ensures)
 
 returns-5 : tie.Need-returns-5
 unfolding callOf
 returns-5 c =
     let d = c .before .before in
-    rw (← d .before .before .before .word-at .ensures, ← d .before .before .byte-at .ensures, ← d .before .byte-at2 .ensures, c .before .match .keys5) (c .sized4 .ensures)
+    rw (← d .before .before .before .word-at .ensures, ← d .before .before .byte-at .ensures, ← d .before .byte-at2 .ensures, c .before .match .keys5) (c .sized5 .ensures)
 
 returns-6 : tie.Need-returns-6
 unfolding callOf
 returns-6 c =
     let d = c .before .before in
-    rw (← d .before .before .before .word-at .ensures, ← d .before .before .byte-at .ensures, ← d .before .byte-at2 .ensures, c .before .match .keys6) (c .sized5 .ensures)
+    rw (← d .before .before .before .word-at .ensures, ← d .before .before .byte-at .ensures, ← d .before .byte-at2 .ensures, c .before .match .keys6) (c .sized6 .ensures)
 
 returns-7 : tie.Need-returns-7
 unfolding callOf
 returns-7 c =
     let d = c .before .before in
-    rw (← d .before .before .before .word-at .ensures, ← d .before .before .byte-at .ensures, ← d .before .byte-at2 .ensures, c .before .match .keys7) (c .sized6 .ensures)
+    rw (← d .before .before .before .word-at .ensures, ← d .before .before .byte-at .ensures, ← d .before .byte-at2 .ensures, c .before .match .keys7) (c .sized7 .ensures)
 
 returns-8 : tie.Need-returns-8
 unfolding callOf
 returns-8 c =
     let d = c .before .before in
-    rw (← d .before .before .before .word-at .ensures, ← d .before .before .byte-at .ensures, ← d .before .byte-at2 .ensures, ← d .byte-at3 .ensures, c .before .match .keys8) (c .sized7 .ensures)
+    rw (← d .before .before .before .word-at .ensures, ← d .before .before .byte-at .ensures, ← d .before .byte-at2 .ensures, ← d .byte-at3 .ensures, c .before .match .keys8) (c .sized8 .ensures)
 
 returns-9 : tie.Need-returns-9
 unfolding callOf
 returns-9 c =
     let d = c .before .before in
-    rw (← d .before .before .before .word-at .ensures, ← d .before .before .byte-at .ensures, ← d .before .byte-at2 .ensures, c .before .match .keys9) (c .sized8 .ensures)
+    rw (← d .before .before .before .word-at .ensures, ← d .before .before .byte-at .ensures, ← d .before .byte-at2 .ensures, c .before .match .keys9) (c .sized9 .ensures)
 
 returns-10 : tie.Need-returns-10
 unfolding callOf
@@ -82,6 +82,9 @@ call-of-spec =
     (λ c κs. search needs)
     (λ c κs. search needs)
     (λ c κs. search needs)
+    (λ c. search needs)
+    (λ c. search needs)
+    (λ c. search needs)
     (λ c κs. search needs)
     (λ c κs. search needs)
     (λ c κs. search needs)

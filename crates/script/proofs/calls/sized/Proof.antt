@@ -1,4 +1,5 @@
 -- At each return the test that led there says which case holds.
+use borrow.Author.Needs.{needs}
 use borrow.Author.Tests.{eq-eqb, ne-eqb}
 use mathlib.Core.Path.{refl}
 use Rattle.laws.specs.Pick.{past, here}
@@ -12,4 +13,4 @@ returns-2 : tie.Need-returns-2
 returns-2 c = past _ (ne-eqb _ _ (c .if1 .left)) refl
 
 pub sized-spec : {M : Type 1} → statement M
-sized-spec = tie.close (tie.spec returns returns-2)
+sized-spec = tie.close (tie.spec (λ c. search needs) returns returns-2)

@@ -1,6 +1,6 @@
 -- What the calls gave, one into the next; sending changes no count.
 use borrow.Author.Needs.{needs}
-use Rattle.sending.specs.Hearing.{block-sent}
+use Rattle.sending.specs.laws.Keeps.{block-sent}
 use Rattle.sending.proofs.hearing.hear.Statement.{statement}
 use Rattle.sending.proofs.hearing.hear.Tie as tie
 

@@ -1,7 +1,6 @@
 -- At each return the tests that led there say which case of the rule holds.
 use borrow.Author.Needs.{needs}
-use mathlib.Core.Path.{refl}
-use Rattle.sending.specs.Hearing.{code-lt}
+use Rattle.sending.specs.laws.Keeps.{code-lt}
 use Rattle.laws.specs.Pick.{past, here}
 use Rattle.sending.proofs.hearing.hear_open.Statement.{statement}
 use Rattle.sending.proofs.hearing.hear_open.Tie as tie

@@ -1,7 +1,6 @@
 -- At each return the tests that led there say which case of the rule holds.
 use borrow.Author.Needs.{needs}
 use lib.Dec.{lit≤}
-use mathlib.Core.Path.{refl}
 use Rattle.laws.specs.Pick.{past, here}
 use Rattle.sending.proofs.hearing.hear_word.Statement.{statement}
 use Rattle.sending.proofs.hearing.hear_word.Tie as tie

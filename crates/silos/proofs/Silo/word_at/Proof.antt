@@ -1,11 +1,8 @@
 -- A word that is held is read off its cell; past them the list has none.
 use borrow.Author.Needs.{needs}
-use mathlib.Core.Path.{_≡_, sym}
-use Prim.Native.Nat.{_≤_}
-use native.Mathlib.Omega.{arith}
-use lib.ListN.{length, take, length-take}
+use mathlib.Core.Path.{sym}
 use lib.Seq.{getD-take}
-use Rattle.silos.specs.Laws.{past-words}
+use Rattle.silos.specs.laws.Laws.{past-words}
 use Rattle.silos.proofs.Silo.word_at.Statement.{statement}
 use Rattle.silos.proofs.Silo.word_at.Tie as tie
 

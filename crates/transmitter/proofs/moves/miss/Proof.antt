@@ -1,7 +1,5 @@
--- At each return the tests that led there say which case of the rule holds.
+-- What the calls gave.
 use borrow.Author.Needs.{needs}
-use mathlib.Core.Path.{refl}
-use Rattle.laws.specs.Pick.{past, here}
 use Rattle.transmitter.proofs.moves.miss.Statement.{statement}
 use Rattle.transmitter.proofs.moves.miss.Tie as tie
 

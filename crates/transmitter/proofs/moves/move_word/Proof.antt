@@ -4,7 +4,7 @@ use mathlib.Core.Path.{refl, ap, sym, _∙_}
 use Prim.Native.Nat.{_<_}
 use native.Mathlib.Omega.{arith}
 use Rattle.laws.specs.Pick.{past, here}
-use Rattle.words.specs.Address.{inside-lt}
+use Rattle.words.specs.laws.AddressLaws.{inside-lt}
 use Rattle.transmitter.specs.Moves.{doneWith, movedFrom}
 use Rattle.transmitter.proofs.moves.move_word.Statement.{statement}
 use Rattle.transmitter.proofs.moves.move_word.Tie as tie
@@ -19,9 +19,9 @@ returns-2 c =
     (ap doneWith (c .miss .ensures ∙ ap (movedFrom (a .t) (a .memory .now)) (sym (c .before .enum-told .given .1) ∙ c .before .before .before .place .ensures)))
 
 -- the word is in the memory
-inside : (c : tie.After-known-told) → c .before .at .given .0 .0 < c .before .before .before .before .before .before .before .before .before .args .length
+inside : (c : tie.After-known-told) → c .before .at .given .0 .0 < c .before .before .before .before .before .before .before .before .before .args .fitted
 inside c =
-    inside-lt (c .before .before .before .before .before .before .before .before .before .args .t .load .address .0) (c .before .before .before .before .before .before .before .before .before .args .length) (c .before .at .given .0 .0)
+    inside-lt (c .before .before .before .before .before .before .before .before .before .args .t .load .address .0) (c .before .before .before .before .before .before .before .before .before .args .fitted) (c .before .at .given .0 .0)
     (sym (c .before .before .before .place .ensures) ∙ c .before .at .given .1)
 
 mul-load-word : tie.Need-mul-load-word

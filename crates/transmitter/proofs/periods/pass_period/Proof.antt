@@ -1,6 +1,5 @@
 -- At each return the tests that led there say which case of the rule holds.
 use borrow.Author.Needs.{needs}
-use mathlib.Core.Path.{refl}
 use Rattle.laws.specs.Pick.{past, here}
 use Rattle.transmitter.proofs.periods.pass_period.Statement.{statement}
 use Rattle.transmitter.proofs.periods.pass_period.Tie as tie

@@ -1,7 +1,6 @@
 -- At each return the tests that led there say which case of the rule holds.
 use borrow.Author.Needs.{needs}
 use borrow.Author.Tests.{eq-eqb, ne-eqb}
-use mathlib.Core.Path.{refl}
 use Rattle.laws.specs.Pick.{past, here}
 use Rattle.transmitter_registers.proofs.registers.read.Statement.{statement}
 use Rattle.transmitter_registers.proofs.registers.read.Tie as tie

@@ -2,7 +2,7 @@
 use borrow.Author.Needs.{needs}
 use borrow.Author.Tests.{ne-eqb}
 use mathlib.Core.Path.{refl}
-use Rattle.laws.specs.Pick.{past, here}
+use Rattle.laws.specs.Pick.{past}
 use Rattle.transmitter_registers.proofs.registers.write.Statement.{statement}
 use Rattle.transmitter_registers.proofs.registers.write.Tie as tie
 

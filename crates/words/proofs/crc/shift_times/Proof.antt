@@ -4,7 +4,7 @@ use mathlib.Core.Path.{_≡_, refl, ap}
 use Prim.Native.Nat.{_≤_, _-_}
 use native.Mathlib.Numerals.{add-one}
 use native.Mathlib.Omega.{arith}
-use Rattle.words.specs.CrcSteps.{steps, step}
+use Rattle.words.specs.laws.CrcSteps.{steps, step}
 use Rattle.words.proofs.crc.shift_times.Statement.{statement}
 use Rattle.words.proofs.crc.shift_times.Tie as tie
 

@@ -2,7 +2,7 @@
 use borrow.Author.Needs.{needs}
 use native.Mathlib.Omega.{arith}
 use lib.Count.{ones-le}
-use Rattle.words.specs.Parity.{line-le}
+use Rattle.words.specs.laws.LineLaws.{line-le}
 use Rattle.words.proofs.parity.parity_is_good.Statement.{statement}
 use Rattle.words.proofs.parity.parity_is_good.Tie as tie
 

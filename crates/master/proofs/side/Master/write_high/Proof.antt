@@ -7,4 +7,4 @@ returns : tie.Need-returns
 returns c = simp (c .answer-of .ensures, c .before .before .write-flags .ensures)
 
 pub write-high-spec : {M : Type 1} → statement M
-write-high-spec = tie.close (tie.spec (λ c. search needs) (λ c. search needs) returns)
+write-high-spec = tie.close (tie.spec (λ c. search needs) (λ c. search needs) (λ c. search needs) returns)

@@ -1,5 +1,4 @@
 -- At each return the tests that led there say which case of the rule holds.
-use borrow.Author.Needs.{needs}
 use mathlib.Core.Path.{refl}
 use Rattle.laws.specs.Pick.{past, here}
 use Rattle.words.proofs.codes.Codes.show.Statement.{statement}

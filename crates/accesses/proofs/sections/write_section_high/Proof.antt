@@ -1,0 +1,46 @@
+-- The section out of its window, the rule, and the section put back.
+use mathlib.Core.Path.{ap, _∙_}
+use Rattle.cells.specs.Fitted.{masterOf}
+use Rattle.master.specs.laws.Laws.{within-high}
+use Rattle.master.specs.Writing.{highByteWritten}
+use Rattle.master.specs.declared.side.Master.{Master}
+use Rattle.master.specs.declared.side.Mastership.{Mastership}
+use Rattle.accesses.specs.Writing.{afterMaster}
+use Rattle.accesses.proofs.sections.write_section_high.Statement.{statement}
+use Rattle.accesses.proofs.sections.write_section_high.Tie as tie
+
+see-master-requires : tie.Need-see-master-requires
+see-master-requires c κs = let f = c .before .before .pre in (f .number, f .room)
+
+load-master-requires : tie.Need-load-master-requires
+load-master-requires c κs = let f = c .before .before .before .before .pre in (f .number, f .room)
+
+write-high-requires : tie.Need-write-high-requires
+write-high-requires c κs = rw (c .load-master .ensures) (c .before .before .before .before .before .pre .master)
+
+store-section-requires : tie.Need-store-section-requires
+store-section-requires c κs =
+    let start = c .before .before .before .before .before .before .before in
+    let a = start .args in
+    let seen = c .before .before .before .before in
+    (start .pre, rw (c .before .write-high .ensures, c .before .before .load-master .ensures) (within-high _ (start .pre .master) (seen .see-master .result) (a .byte)))
+
+same-length : tie.Need-same-length
+same-length c = c .before .before .store-section .kept .0
+
+returns : tie.Need-returns
+returns c =
+    let stored = c .before .before in
+    let ruled = stored .before .before in
+    let loaded = ruled .before in
+    let seen = loaded .before .before in
+    let a = seen .before .before .before .args in
+    let s = a .cells .now in
+    stored .store-section .ensures
+    ∙ ap (afterMaster s (a .unit))
+    (ruled .write-high .ensures
+    ∙ ap (λ (m : Master). highByteWritten m (seen .see-master .result) (a .byte)) (loaded .load-master .ensures)
+    ∙ ap (λ (x : Mastership). highByteWritten (masterOf s (a .unit)) x (a .byte)) (seen .see-master .ensures))
+
+pub write-section-high-spec : {M : Type 1} → statement M
+write-section-high-spec = tie.close (tie.spec see-master-requires load-master-requires write-high-requires store-section-requires same-length returns)

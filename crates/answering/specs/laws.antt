@@ -1,0 +1,5 @@
+pub mod Hears
+pub mod Keeps
+pub mod Listening
+pub mod Parts
+pub mod Within

@@ -1,0 +1,8 @@
+pub mod FitLaws
+pub mod FrameLaws
+pub mod HolderLaws
+pub mod PutLaws
+pub mod RangeLaws
+pub mod RoomLaws
+pub mod SideLaws
+pub mod StoreLaws

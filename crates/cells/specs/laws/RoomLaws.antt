@@ -1,0 +1,13 @@
+-- What a state has that has room for a unit's block.
+-- Assumes nothing.
+use Prim.Native.Nat.{ℕ, _+_, _≤_}
+use native.Mathlib.Omega.{arith}
+use Rattle.cells.specs.Layout.{unitPlace}
+
+-- the header
+pub header-room : (unit n : ℕ) → unitPlace unit + 214 ≤ n → 2 ≤ n
+header-room unit n fits = omega arith
+
+-- its block ends where the next one begins
+pub block-room : (unit n : ℕ) → unitPlace unit + 214 ≤ n → unitPlace (unit + 1) ≤ n
+block-room unit n fits = omega arith

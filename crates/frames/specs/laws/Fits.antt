@@ -1,0 +1,101 @@
+-- A fit of a good set-up leaves the lent cells in range, whatever they held before.
+-- Assumes nothing.
+use mathlib.Core.Bool.{true}
+use mathlib.Core.List.{List}
+use mathlib.Core.Path.{_≡_, refl, _∙_}
+use Prim.Native.Nat.{ℕ, zero, suc, _+_, _≤_}
+use native.Mathlib.Omega.{arith}
+use lib.ListN.{length}
+use Rattle.cells.specs.laws.FitLaws.{unit-within, unit-fitted, fit-in-range}
+use Rattle.cells.specs.Fitted.{putTransmitter, putReceiver}
+use Rattle.cells.specs.Layout.{unitPlace, transmitterPlace, receiverPlace, masterPlace, encUnit}
+use Rattle.cells.specs.Ranges.{unitsInRange, inRange}
+use Rattle.codec.specs.laws.MasterLaws.{length-master}
+use Rattle.codec.specs.Masters.{encMaster}
+use Rattle.codec.specs.laws.ReceiverLaws.{length-receiver}
+use Rattle.codec.specs.Receivers.{encReceiver}
+use Rattle.codec.specs.laws.TransmitterLaws.{length-transmitter}
+use Rattle.codec.specs.Transmitters.{encTransmitter}
+use Rattle.codec.specs.Window.{splice}
+use Rattle.codec.specs.laws.WindowLaws.{length-splice}
+use Rattle.fitting.specs.Fit.{unitOf, unitsFitted, fit}
+use Rattle.fitting.specs.SetUp.{numberOf, countOf, setUpGood}
+use Rattle.fitting.specs.laws.SetUpLaws.{UnitGood, good-says}
+use Rattle.master.specs.laws.Laws as ML
+use Rattle.master.specs.Side as M
+use Rattle.receiver.specs.laws.Keeps as RK
+use Rattle.receiver.specs.Side as R
+use Rattle.transmitter.specs.laws.Keeps as TK
+use Rattle.transmitter.specs.Side as T
+
+-- ---- one unit stored where it has room, its four groups one after the other
+
+abbrev pub ownPut : List ℕ → List ℕ → ℕ → List ℕ
+ownPut setup cells unit = splice cells (unitPlace unit) (encUnit (numberOf setup unit 0) (numberOf setup unit 1) (numberOf setup unit 3))
+
+abbrev pub transmitterPut : List ℕ → List ℕ → ℕ → List ℕ
+transmitterPut setup cells unit = putTransmitter (ownPut setup cells unit) unit T.initial
+
+abbrev pub receiverPut : List ℕ → List ℕ → ℕ → List ℕ
+receiverPut setup cells unit = putReceiver (transmitterPut setup cells unit) unit R.initial
+
+module _ (setup cells : List ℕ) (unit : ℕ) (good : UnitGood setup unit) (room : unitPlace unit + 214 ≤ length cells) where
+  pub master-within : M.Within (M.initial (numberOf setup unit 2))
+  master-within = let s = good .switch .1 in ML.within-initial (numberOf setup unit 2) (omega arith)
+
+  -- each has its room
+  pub own-fits : unitPlace unit + 4 ≤ length cells
+  own-fits = omega arith
+
+  own-length : length (ownPut setup cells unit) ≡ length cells
+  own-length = length-splice cells (unitPlace unit) (encUnit (numberOf setup unit 0) (numberOf setup unit 1) (numberOf setup unit 3)) own-fits
+
+  pub transmitter-fits : transmitterPlace unit + length (encTransmitter T.initial) ≤ length (ownPut setup cells unit)
+  transmitter-fits = omega (arith, own-length, length-transmitter T.initial TK.within-initial)
+
+  transmitter-length : length (transmitterPut setup cells unit) ≡ length cells
+  transmitter-length = length-splice (ownPut setup cells unit) (transmitterPlace unit) (encTransmitter T.initial) transmitter-fits ∙ own-length
+
+  pub receiver-fits : receiverPlace unit + length (encReceiver R.initial) ≤ length (transmitterPut setup cells unit)
+  receiver-fits = omega (arith, transmitter-length, length-receiver R.initial RK.within-initial)
+
+  receiver-length : length (receiverPut setup cells unit) ≡ length cells
+  receiver-length = length-splice (transmitterPut setup cells unit) (receiverPlace unit) (encReceiver R.initial) receiver-fits ∙ transmitter-length
+
+  pub master-fits : masterPlace unit + length (encMaster (M.initial (numberOf setup unit 2))) ≤ length (receiverPut setup cells unit)
+  master-fits = omega (arith, receiver-length, length-master (M.initial (numberOf setup unit 2)) master-within)
+
+  one-length : length (unitOf setup cells unit) ≡ length cells
+  one-length = length-splice (receiverPut setup cells unit) (masterPlace unit) (encMaster (M.initial (numberOf setup unit 2))) master-fits ∙ receiver-length
+
+  one-more : unitsInRange unit cells ≡ true → unitsInRange (suc unit) (unitOf setup cells unit) ≡ true
+  one-more =
+      let t = good .transmitter in
+      let r = good .receiver in
+      let m = good .memory in
+      let s = good .switch .0 in
+      unit-fitted cells unit room (encUnit (numberOf setup unit 0) (numberOf setup unit 1) (numberOf setup unit 3)) refl
+      (unit-within (numberOf setup unit 0) (numberOf setup unit 1) (numberOf setup unit 3) (t .0) (r .0) (m .0) (t .1) (r .1) (m .1)) T.initial R.initial
+      (M.initial (numberOf setup unit 2)) TK.within-initial RK.within-initial master-within (ML.counting-initial (numberOf setup unit 2) (omega arith))
+
+-- ---- all of them, and the header
+module _ (setup cells : List ℕ) (ok : setUpGood setup ≡ true) (room : unitPlace (countOf setup) ≤ length cells) where
+  pub fitted-length : (n : ℕ) → n ≤ countOf setup → length (unitsFitted n setup cells) ≡ length cells
+  unfolding unitsFitted
+  fitted-length zero h = refl
+  fitted-length (suc n) h =
+      let before : length (unitsFitted n setup cells) ≡ length cells = fitted-length n (omega arith) in
+      one-length setup (unitsFitted n setup cells) n (good-says setup ok .units n h) (omega arith) ∙ before
+
+  fitted-range : (n : ℕ) → n ≤ countOf setup → unitsInRange n (unitsFitted n setup cells) ≡ true
+  unfolding unitsFitted unitsInRange
+  fitted-range zero h = refl
+  fitted-range (suc n) h =
+      let before : length (unitsFitted n setup cells) ≡ length cells = fitted-length n (omega arith) in
+      one-more setup (unitsFitted n setup cells) n (good-says setup ok .units n h) (omega arith) (fitted-range n (omega arith))
+
+  pub fit-ranged : inRange (fit cells setup) ≡ true
+  fit-ranged =
+      let count = countOf setup in
+      let l : length (unitsFitted count setup cells) ≡ length cells = fitted-length count (omega arith) in
+      fit-in-range (unitsFitted count setup cells) count (good-says setup ok .most) (omega arith) (fitted-range count (omega arith))

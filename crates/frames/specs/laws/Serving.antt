@@ -1,0 +1,128 @@
+-- The slice of an address: it is of the transmitter and the receiver found, and every other side is as it was.
+-- Assumes nothing.
+use mathlib.Core.Bool.{Bool}
+use mathlib.Core.List.{List}
+use mathlib.Core.Path.{_≡_, refl, ap, ap₂, subst⁻¹, _∙_}
+use Prim.Native.Nat.{ℕ, _<_}
+use native.Mathlib.Omega.{arith}
+use borrow.Author.Tests.{ltb-true}
+use lib.Dec.{ltb}
+use Rattle.bus.specs.Slice as B
+use Rattle.bus.specs.declared.slice.Given.{Given}
+use Rattle.cells.specs.Fitted.{transmitterOf}
+use Rattle.cells.specs.laws.FrameLaws.{transmitter-found-kept, receiver-found-kept}
+use Rattle.cells.specs.Layout.{countIn, transmitterAddress, receiverAddress}
+use Rattle.cells.specs.Search.{firstTransmitter, firstReceiver, fitted}
+use Rattle.laws.specs.Pick.{pick, either}
+use Rattle.sending.specs.Choice.{destinationOf}
+use Rattle.slices.specs.laws.Keeps.{within-transmitter, within-receiver, within-alone}
+use Rattle.slices.specs.Slice.{exchanged, sentAlone}
+use Rattle.slices.specs.declared.Alone.{Alone}
+use Rattle.slices.specs.declared.Pair.{Pair}
+use Rattle.transmitter.specs.declared.side.Transmitter.{Transmitter}
+use Rattle.words.specs.Codes.{noCodes}
+use Rattle.words.specs.declared.codes.Codes.{Codes}
+use Rattle.frames.specs.laws.Leaves.{Leaves, alike}
+use Rattle.frames.specs.laws.Sides.{Sides, withTransmitter, withReceiver}
+use Rattle.frames.specs.laws.Stores.{transmitter-stored, receiver-stored}
+use Rattle.frames.specs.laws.Whole.{Kept}
+
+-- ---- the units found, by the addresses in the cells: the same after as before where these are kept
+
+abbrev pub unitFor : List ℕ → ℕ → ℕ
+unitFor cells from = firstTransmitter cells (countIn cells) from
+
+abbrev pub receiverFor : List ℕ → Transmitter → ℕ
+receiverFor cells t = firstReceiver cells (countIn cells) (destinationOf t)
+
+module _ {cells after : List ℕ} (kept : Kept cells after) where
+  pub unit-for-kept : (from : ℕ) → unitFor after from ≡ unitFor cells from
+  unit-for-kept from =
+      transmitter-found-kept cells after (kept .own) (countIn after) from ∙ ap (λ (n : ℕ). firstTransmitter cells n from) (kept .count)
+
+  pub receiver-for-kept : (t : Transmitter) → receiverFor after t ≡ receiverFor cells t
+  receiver-for-kept t =
+      receiver-found-kept cells after (kept .own) (countIn after) (destinationOf t)
+      ∙ ap (λ (n : ℕ). firstReceiver cells n (destinationOf t)) (kept .count)
+
+-- ---- a slice on the sides, as `bus` has it on the cells
+
+abbrev pub pairOn : Sides → ℕ → ℕ → Pair → Codes × Sides
+pairOn s unit other p = (p .codes, withReceiver (withTransmitter s unit (p .transmitter)) other (p .receiver))
+
+abbrev pub heardOn : Sides → ℕ → ℕ → ℕ → ℕ → Bool → Codes × Sides
+heardOn s unit other from mask parity = pairOn s unit other (exchanged (s .transmitter unit) (s .receiver other) from mask parity)
+
+abbrev pub aloneOn : Sides → ℕ → Alone → Codes × Sides
+aloneOn s unit a = (a .codes, withTransmitter s unit (a .transmitter))
+
+abbrev pub unheardOn : Sides → ℕ → Codes × Sides
+unheardOn s unit = aloneOn s unit (sentAlone (s .transmitter unit))
+
+abbrev pub sliceBy : Sides → ℕ → ℕ → ℕ → ℕ → Bool → Codes × Sides
+sliceBy s unit other from mask parity = pick (ltb other 16) (heardOn s unit other from mask parity) (unheardOn s unit)
+
+abbrev pub sliceOn : List ℕ → Sides → ℕ → ℕ → ℕ → Bool → Codes × Sides
+sliceOn cells s unit from mask parity = sliceBy s unit (receiverFor cells (s .transmitter unit)) from mask parity
+
+abbrev pub servedBy : List ℕ → Sides → ℕ → ℕ → ℕ → Bool → Codes × Sides
+servedBy cells s unit from mask parity = pick (ltb unit 16) (sliceOn cells s unit from mask parity) (noCodes, s)
+
+abbrev pub servedOn : List ℕ → Sides → ℕ → ℕ → Bool → Codes × Sides
+servedOn cells s from mask parity = servedBy cells s (unitFor cells from) from mask parity
+
+-- what holds of the sides in each case
+module _ (cells : List ℕ) (s : Sides) (from mask : ℕ) (parity : Bool) (P : Sides → Type 0) where
+  pub in-each : P s → (unitFor cells from < 16 → P (unheardOn s (unitFor cells from) .1))
+      → (unitFor cells from < 16 → P (heardOn s (unitFor cells from) (receiverFor cells (s .transmitter (unitFor cells from))) from mask parity .1))
+      → P (servedOn cells s from mask parity .1)
+  in-each idle alone heard =
+      let unit = unitFor cells from in
+      either (λ (q : Codes × Sides). P (q .1)) (ltb unit 16)
+      (λ e. either (λ (q : Codes × Sides). P (q .1)) (ltb (receiverFor cells (s .transmitter unit)) 16) (λ near. heard (ltb-true unit 16 e))
+      (λ none. alone (ltb-true unit 16 e))) (λ e. idle)
+
+-- ---- the answer is the address and those codes, and the cells hold those sides
+
+pub record Serves (cells : List ℕ) (p : Given × List ℕ) (from : ℕ) (q : Codes × Sides) : Type 0 where
+  pub answer : p .0 ≡ record { address = from; codes = q .0 }
+  pub leaves : Leaves cells (p .1) (q .1)
+
+module _ {cells middle : List ℕ} {s : Sides} (l : Leaves cells middle s) (from : ℕ) (address : from < 32) (mask : ℕ) (parity : Bool) where
+  module _ (unit : ℕ) (fits : unit < countIn cells) where
+    same : transmitterOf middle unit ≡ s .transmitter unit
+    same = l .holds .transmitter unit fits
+
+    heard : (other : ℕ) → other < countIn cells → Serves cells (B.given from (B.heardBy middle unit other from mask parity)) from (heardOn s unit other from mask parity)
+    heard other there =
+        let p = exchanged (s .transmitter unit) (s .receiver other) from mask parity in
+        let t = within-transmitter (s .transmitter unit) (s .receiver other) from mask parity (l .sound .transmitter unit fits) in
+        let r = within-receiver (s .transmitter unit) (s .receiver other) from mask parity (l .sound .receiver other there) address in
+        subst⁻¹ (λ (p : Pair). Serves cells (B.given from (B.putPair middle unit other p)) from (heardOn s unit other from mask parity))
+        (ap₂ (λ x y. exchanged x y from mask parity) same (l .holds .receiver other there))
+        (record { answer = refl; leaves = receiver-stored (transmitter-stored l unit fits (p .transmitter) t) other there (p .receiver) r })
+
+    unheard : Serves cells (B.given from (B.unheard middle unit)) from (unheardOn s unit)
+    unheard =
+        let t = within-alone (s .transmitter unit) (l .sound .transmitter unit fits) in
+        subst⁻¹ (λ (x : Transmitter). Serves cells (B.given from (B.putAlone middle unit (sentAlone x))) from (unheardOn s unit)) same
+        (record { answer = refl; leaves = transmitter-stored l unit fits (sentAlone (s .transmitter unit) .transmitter) t })
+
+    other-found : receiverFor middle (transmitterOf middle unit) ≡ receiverFor cells (s .transmitter unit)
+    other-found = receiver-for-kept (l .kept) (transmitterOf middle unit) ∙ ap (receiverFor cells) same
+
+    slice : Serves cells (B.given from (B.sliceOf middle unit from mask parity)) from (sliceOn cells s unit from mask parity)
+    slice =
+        let other = receiverFor cells (s .transmitter unit) in
+        subst⁻¹ (λ (n : ℕ). Serves cells (B.given from (B.heardOr middle unit n from mask parity)) from (sliceOn cells s unit from mask parity)) other-found
+        (alike (λ (p : Codes × List ℕ) (q : Codes × Sides). Serves cells (B.given from p) from q) (ltb other 16)
+        (λ e. heard other (omega (arith, fitted (receiverAddress cells) (destinationOf (s .transmitter unit)) (countIn cells) 0 (ltb-true other 16 e))))
+        (λ e. unheard))
+
+  pub served : Serves cells (B.served middle from mask parity) from (servedOn cells s from mask parity)
+  served =
+      let unit = unitFor cells from in
+      subst⁻¹ (λ (n : ℕ). Serves cells (B.servedOr middle n from mask parity) from (servedOn cells s from mask parity)) (unit-for-kept (l .kept) from)
+      (alike (λ (p : Given × List ℕ) (q : Codes × Sides). Serves cells p from q) (ltb unit 16)
+      (λ e. slice unit (omega (arith, fitted (transmitterAddress cells) from (countIn cells) 0 (ltb-true unit 16 e))))
+      (λ e. record { answer = refl; leaves = l }))

@@ -1,0 +1,124 @@
+-- One unit of a good set-up stored: each side is in its initial state, and the units before it are as they were.
+-- Assumes nothing.
+use mathlib.Core.List.{List}
+use mathlib.Core.Path.{_≡_, ap, _∙_}
+use Prim.Native.Nat.{ℕ, _+_, _≤_, _<_}
+use native.Mathlib.Omega.{arith}
+use lib.ListN.{length}
+use Rattle.cells.specs.laws.FitLaws.{transmitter-address-stored, receiver-address-stored, memory-length-stored}
+use Rattle.cells.specs.Fitted.{transmitterOf, receiverOf, masterOf}
+use Rattle.cells.specs.Layout.{unitPlace, transmitterPlace, receiverPlace, masterPlace, ownCell, transmitterAddress, receiverAddress, memoryLength}
+use Rattle.codec.specs.laws.MasterLaws.{length-master, master-stored}
+use Rattle.codec.specs.Masters.{encMaster, decMaster}
+use Rattle.codec.specs.laws.ReceiverLaws.{length-receiver, receiver-stored}
+use Rattle.codec.specs.Receivers.{encReceiver, decReceiver}
+use Rattle.codec.specs.laws.TransmitterLaws.{length-transmitter, transmitter-stored}
+use Rattle.codec.specs.Transmitters.{encTransmitter, decTransmitter}
+use Rattle.codec.specs.Window.{window, splice}
+use Rattle.codec.specs.laws.WindowLaws.{window-before, window-after, cell-before, cell-past}
+use Rattle.fitting.specs.Fit.{unitOf}
+use Rattle.fitting.specs.SetUp.{numberOf}
+use Rattle.fitting.specs.laws.SetUpLaws.{UnitGood}
+use Rattle.master.specs.Side as M
+use Rattle.receiver.specs.laws.Keeps as RK
+use Rattle.receiver.specs.Side as R
+use Rattle.transmitter.specs.laws.Keeps as TK
+use Rattle.transmitter.specs.Side as T
+use Rattle.frames.specs.laws.Fits.{ownPut, transmitterPut, receiverPut, own-fits, transmitter-fits, receiver-fits, master-fits, master-within}
+
+pub record Started (setup : List ℕ) (unit : ℕ) (cells : List ℕ) : Type 0 where
+  pub transmitter : transmitterOf cells unit ≡ T.initial
+  pub receiver : receiverOf cells unit ≡ R.initial
+  pub master : masterOf cells unit ≡ M.initial (numberOf setup unit 2)
+  pub transmitterAt : transmitterAddress cells unit ≡ numberOf setup unit 0
+  pub receiverAt : receiverAddress cells unit ≡ numberOf setup unit 1
+  pub memory : memoryLength cells unit ≡ numberOf setup unit 3
+
+-- ---- a unit's block is as it was after a splice that is apart from it
+
+pub record SameBlock (unit : ℕ) (cells after : List ℕ) : Type 0 where
+  pub part : (p n : ℕ) → p + n ≤ 214 → window after (unitPlace unit + p) n ≡ window cells (unitPlace unit + p) n
+  pub own : (j : ℕ) → j < 4 → ownCell after j unit ≡ ownCell cells j unit
+
+module _ (cells : List ℕ) (at : ℕ) (w : List ℕ) (fits : at + length w ≤ length cells) (unit : ℕ) where
+  block-before : unitPlace unit + 214 ≤ at → SameBlock unit cells (splice cells at w)
+  block-before h =
+      record {
+        part = λ p n inside. window-before cells at w (unitPlace unit + p) n (omega arith) (omega arith);
+        own = λ j inside. cell-before cells at w fits (unitPlace unit + j) (omega arith);
+      }
+
+  pub block-past : at + length w ≤ unitPlace unit → unitPlace unit + 214 ≤ length cells → SameBlock unit cells (splice cells at w)
+  block-past h room =
+      record {
+        part = λ p n inside. window-after cells at w (unitPlace unit + p) (omega arith) (omega arith) n;
+        own = λ j inside. cell-past cells at w fits (unitPlace unit + j) (omega arith);
+      }
+
+same-then : {unit : ℕ} {cells middle after : List ℕ} → SameBlock unit cells middle → SameBlock unit middle after → SameBlock unit cells after
+same-then a b = record { part = λ p n h. b .part p n h ∙ a .part p n h; own = λ j h. b .own j h ∙ a .own j h }
+
+pub started-again : {setup cells after : List ℕ} {unit : ℕ} → SameBlock unit cells after → Started setup unit cells → Started setup unit after
+started-again {setup} {cells} {after} {unit} same s =
+    let own0 = same .own 0 (omega arith) in
+    let own1 = same .own 1 (omega arith) in
+    let own2 = same .own 2 (omega arith) in
+    let own3 = same .own 3 (omega arith) in
+    record {
+      transmitter = ap decTransmitter (same .part 4 72 (omega arith)) ∙ s .transmitter;
+      receiver = ap decReceiver (same .part 76 72 (omega arith)) ∙ s .receiver;
+      master = ap decMaster (same .part 148 66 (omega arith)) ∙ s .master;
+      transmitterAt = ap (λ (n : ℕ). n + 1) own0 ∙ s .transmitterAt;
+      receiverAt = ap (λ (n : ℕ). n + 1) own1 ∙ s .receiverAt;
+      memory = rw (own2, own3) (s .memory);
+    }
+
+-- ---- one unit stored: it is started, and those before it are as they were
+
+module _ (setup cells : List ℕ) (unit : ℕ) (good : UnitGood setup unit) (room : unitPlace unit + 214 ≤ length cells) where
+  pub before-own : (k : ℕ) → unitPlace k + 214 ≤ unitPlace unit → SameBlock k cells (unitOf setup cells unit)
+  before-own k h =
+      same-then
+      (same-then
+      (same-then (block-before cells (unitPlace unit) _ (own-fits setup cells unit good room) k h)
+      (block-before (ownPut setup cells unit) (transmitterPlace unit) (encTransmitter T.initial) (transmitter-fits setup cells unit good room) k (omega arith)))
+      (block-before (transmitterPut setup cells unit) (receiverPlace unit) (encReceiver R.initial) (receiver-fits setup cells unit good room) k (omega arith)))
+      (block-before (receiverPut setup cells unit) (masterPlace unit) (encMaster (M.initial (numberOf setup unit 2))) (master-fits setup cells unit good room) k (omega arith))
+
+  pub started : Started setup unit (unitOf setup cells unit)
+  started =
+      let t = encTransmitter T.initial in
+      let r = encReceiver R.initial in
+      let m = encMaster (M.initial (numberOf setup unit 2)) in
+      let tf = transmitter-fits setup cells unit good room in
+      let rf = receiver-fits setup cells unit good room in
+      let mf = master-fits setup cells unit good room in
+      let tl : length t ≡ 72 = length-transmitter T.initial TK.within-initial in
+      let rl : length r ≡ 72 = length-receiver R.initial RK.within-initial in
+      let ml : length m ≡ 66 = length-master (M.initial (numberOf setup unit 2)) (master-within setup cells unit good room) in
+      let own : (j : ℕ) → j < 4 → ownCell (unitOf setup cells unit) j unit ≡ ownCell (ownPut setup cells unit) j unit =
+      λ j h.
+      cell-before (receiverPut setup cells unit) (masterPlace unit) m mf (unitPlace unit + j) (omega arith)
+      ∙ cell-before (transmitterPut setup cells unit) (receiverPlace unit) r rf (unitPlace unit + j) (omega arith)
+      ∙ cell-before (ownPut setup cells unit) (transmitterPlace unit) t tf (unitPlace unit + j) (omega arith) in
+      let a = numberOf setup unit 0 in
+      let c = numberOf setup unit 1 in
+      let d = numberOf setup unit 3 in
+      let a1 = good .transmitter .0 in
+      let c1 = good .receiver .0 in
+      let d1 = good .memory .0 in
+      let of = own-fits setup cells unit good room in
+      record {
+        transmitter =
+            ap decTransmitter
+            (window-before (receiverPut setup cells unit) (masterPlace unit) m (transmitterPlace unit) 72 (omega arith) (omega arith)
+            ∙ window-before (transmitterPut setup cells unit) (receiverPlace unit) r (transmitterPlace unit) 72 (omega arith) (omega arith))
+            ∙ transmitter-stored (ownPut setup cells unit) (transmitterPlace unit) T.initial TK.within-initial (omega arith);
+        receiver =
+            ap decReceiver (window-before (receiverPut setup cells unit) (masterPlace unit) m (receiverPlace unit) 72 (omega arith) (omega arith))
+            ∙ receiver-stored (transmitterPut setup cells unit) (receiverPlace unit) R.initial RK.within-initial (omega arith);
+        master = master-stored (receiverPut setup cells unit) (masterPlace unit) (M.initial (numberOf setup unit 2)) (master-within setup cells unit good room) (omega arith);
+        transmitterAt = ap (λ (n : ℕ). n + 1) (own 0 (omega arith)) ∙ transmitter-address-stored a c d a1 c1 d1 cells unit of;
+        receiverAt = ap (λ (n : ℕ). n + 1) (own 1 (omega arith)) ∙ receiver-address-stored a c d a1 c1 d1 cells unit of;
+        memory = rw (own 2 (omega arith), own 3 (omega arith)) (memory-length-stored a c d a1 c1 d1 cells unit of);
+      }

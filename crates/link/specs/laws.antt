@@ -1,0 +1,5 @@
+pub mod InputLaws
+pub mod PartLaws
+pub mod ScriptLaws
+pub mod TextLaws
+pub mod TurnLaws

@@ -1,0 +1,8 @@
+pub mod Counter
+pub mod CycleLaws
+pub mod Held
+pub mod Laws
+pub mod ReadingLaws
+pub mod RingLaws
+pub mod Rotation
+pub mod Rounds

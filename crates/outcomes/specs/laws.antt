@@ -1,0 +1,3 @@
+pub mod FitRanged
+pub mod RefusedSides
+pub mod RefusedUnits

@@ -1,0 +1,71 @@
+-- A slice's address is below 32, and its codes are below 4: they fit in the bits that a packed answer has for them.
+-- Assumes nothing.
+use mathlib.Core.Bool.{Bool}
+use mathlib.Core.List.{List}
+use Prim.Native.Nat.{ℕ, _-_, _<_}
+use native.Mathlib.Omega.{arith}
+use borrow.Author.Tests.{eqb-false}
+use lib.Dec.{eqb, ltb, lit<}
+use Rattle.answering.specs.laws.Keeps.{code-lt}
+use Rattle.bus.specs.Slice.{heardOr, served}
+use Rattle.bus.specs.declared.slice.Given.{Given}
+use Rattle.bus.specs.declared.slice.Slot.{Slot}
+use Rattle.cells.specs.Fitted.{fitted, transmitterOf, receiverOf, masterOf, putMaster}
+use Rattle.cells.specs.Layout.{countIn, holderIn}
+use Rattle.cells.specs.laws.RangeLaws.{in-range-says}
+use Rattle.cells.specs.Search.{firstTransmitter, firstReceiver}
+use Rattle.codec.specs.Limits.{Words}
+use Rattle.laws.specs.Pick.{either}
+use Rattle.master.specs.laws.Laws.{next-lt}
+use Rattle.master.specs.Section.{nextOf}
+use Rattle.receiver.specs.declared.side.Receiver.{Receiver}
+use Rattle.sending.specs.Choice.{actsOn, chosen, sentBy, destinationOf}
+use Rattle.sending.specs.laws.Keeps.{code-lt as sent-lt}
+use Rattle.slices.specs.Slice.{exchanged, sentAlone}
+use Rattle.slices.specs.declared.Alone.{Alone}
+use Rattle.slices.specs.declared.Pair.{Pair}
+use Rattle.transmitter.specs.declared.side.Transmitter.{Transmitter}
+use Rattle.words.specs.Lines.{damaged}
+use Rattle.words.specs.declared.codes.Codes.{Codes}
+use Rattle.pcl.specs.Link.{sliceCall}
+use Rattle.pcl.specs.laws.Cases.{slice-cases}
+use Rattle.pcl.specs.laws.Narrow.{Narrow, NarrowSlot, NarrowCall}
+use Rattle.pcl.specs.declared.answers.SliceCall.{SliceCall}
+
+abbrev Small : Codes → Type 0
+Small c = (c .a < 4) × (c .b < 4)
+
+exchanged-small : (t : Transmitter) (r : Receiver) (from mask : ℕ) (parity : Bool) → Small (exchanged t r from mask parity .codes)
+exchanged-small t r from mask parity =
+    either (λ (p : Pair). Small (p .codes)) (actsOn (chosen t))
+    (λ e. (sent-lt (chosen t), code-lt r from (damaged (sentBy t (chosen t)) mask parity))) (λ e. (lit< tt, lit< tt))
+
+alone-small : (t : Transmitter) → Small (sentAlone t .codes)
+alone-small t = either (λ (a : Alone). Small (a .codes)) (actsOn (chosen t)) (λ e. (sent-lt (chosen t), lit< tt)) (λ e. (lit< tt, lit< tt))
+
+module _ (cells : List ℕ) (mask : ℕ) (parity : Bool) where
+  heard-small : (unit other from : ℕ) → Small (heardOr cells unit other from mask parity .0)
+  heard-small unit other from =
+      either (λ (p : Codes × List ℕ). Small (p .0)) (ltb other 16)
+      (λ e. exchanged-small (transmitterOf cells unit) (receiverOf cells other) from mask parity) (λ e. alone-small (transmitterOf cells unit))
+
+  served-narrow : (address : ℕ) → address < 32 → Narrow (served cells address mask parity .0)
+  served-narrow address h =
+      let unit = firstTransmitter cells (countIn cells) address in
+      either (λ (p : Given × List ℕ). Narrow (p .0)) (ltb unit 16)
+      (λ e.
+      let s = heard-small unit (firstReceiver cells (countIn cells) (destinationOf (transmitterOf cells unit))) address in
+      (h, s .0, s .1))
+      (λ e. (h, lit< tt, lit< tt))
+
+pub narrow : (cells : List ℕ) → Words cells → (mask parity : ℕ) → NarrowCall (sliceCall cells mask parity .0)
+narrow cells words mask parity =
+    slice-cases cells (λ (p : SliceCall × List ℕ). NarrowCall (p .0)) mask parity tt tt
+    (λ ok.
+    either (λ (p : Slot × List ℕ). NarrowSlot (p .0)) (eqb (holderIn cells) 0) (λ e. tt)
+    (λ some.
+    let most = in-range-says cells ok .holder in
+    let u = holderIn cells - 1 in
+    let there : u < countIn cells = omega (arith, eqb-false (holderIn cells) 0 some) in
+    let m = masterOf cells u in
+    served-narrow (putMaster cells u (nextOf m .side)) mask (eqb parity 1) (nextOf m .address) (next-lt m (fitted cells ok words u there .master))))

@@ -1,0 +1,56 @@
+-- What a line shows is document 01's number of the call's answer, and its values.
+-- Assumes nothing.
+use mathlib.Core.Bool.{true, false}
+use mathlib.Core.Path.{_≡_, refl}
+use Prim.Native.Nat.{ℕ, _+_, _*_, _/_, _%_, _<_}
+use native.Mathlib.Omega.{arith}
+use Rattle.bus.specs.declared.slice.Slot.{Slot}
+use Rattle.pcl.specs.Numbers.{readCallNumber, readCallWord, readPacked, levelNumber, levelValue, levelPacked, slicePacked}
+use Rattle.pcl.specs.laws.Narrow.{NarrowCall}
+use Rattle.pcl.specs.declared.answers.LevelCall.{LevelCall}
+use Rattle.pcl.specs.declared.answers.ReadCall.{ReadCall}
+use Rattle.pcl.specs.declared.answers.SliceCall.{SliceCall}
+use Rattle.words.specs.declared.answers.Read.{Read}
+use Rattle.script.specs.declared.lines.Line.{Line}
+use Rattle.performing.specs.Perform.{numberIn, valueIn, readLine, levelLine, sliceLine}
+
+-- a number below 65,536 and the value over it
+number : (n v : ℕ) → n < 65536 → numberIn (n + v * 65536) ≡ n
+number n v h = omega arith
+
+value : (n v : ℕ) → n < 65536 → valueIn (n + v * 65536) ≡ v
+value n v h = omega arith
+
+pub read-line : (c : ReadCall) → readLine (readPacked c) ≡ Line.Read (readCallNumber c) (readCallWord c)
+read-line ReadCall.BadState = refl
+read-line ReadCall.NoUnit = refl
+read-line (ReadCall.Register (Read.Word w)) = rw (number 0 w (omega arith), value 0 w (omega arith))
+read-line (ReadCall.Register Read.NoRegister) = refl
+read-line (ReadCall.Register Read.Nothing) = refl
+
+pub level-line : (c : LevelCall) → levelLine (levelPacked c) ≡ Line.Level (levelNumber c) (levelValue c)
+level-line LevelCall.BadState = refl
+level-line LevelCall.NoUnit = refl
+level-line (LevelCall.Level true) = refl
+level-line (LevelCall.Level false) = refl
+
+-- a slice that was passed says its address, A and B
+abbrev pub sliceSays : SliceCall → Line
+sliceSays SliceCall.BadState = Line.Slice 9 0 0 0
+sliceSays SliceCall.BadMask = Line.Slice 7 0 0 0
+sliceSays (SliceCall.Passed Slot.NoMaster) = Line.Slice 8 0 0 0
+sliceSays (SliceCall.Passed (Slot.Given g)) = Line.Slice 0 (g .address) (g .codes .a) (g .codes .b)
+
+-- they fit their bits in every answer of a slice: `Bounds` of the calls
+pub slice-line : (c : SliceCall) → NarrowCall c → sliceLine (slicePacked c) ≡ sliceSays c
+slice-line SliceCall.BadState narrow = refl
+slice-line SliceCall.BadMask narrow = refl
+slice-line (SliceCall.Passed Slot.NoMaster) narrow = refl
+slice-line (SliceCall.Passed (Slot.Given g)) narrow =
+    let v = g .address + g .codes .a * 32 + g .codes .b * 128 in
+    let address : v % 32 ≡ g .address = omega (arith, narrow) in
+    let codes : v / 32 ≡ g .codes .a + g .codes .b * 4 = omega (arith, narrow) in
+    let a : v / 32 % 4 ≡ g .codes .a = rw codes (omega (arith, narrow)) in
+    let high : v / 128 ≡ g .codes .b = omega (arith, narrow) in
+    let b : v / 128 % 4 ≡ g .codes .b = rw high (omega (arith, narrow)) in
+    rw (number 0 v (omega arith), value 0 v (omega arith), address, a, b)

@@ -1,0 +1,4 @@
+pub mod LineLaws
+pub mod RecordLaws
+pub mod SetUpLaws
+pub mod WindowLaws

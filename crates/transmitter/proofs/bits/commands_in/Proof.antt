@@ -1,0 +1,10 @@
+-- Each bit is what its call gave.
+use borrow.Author.Needs.{needs}
+use Rattle.transmitter.proofs.bits.commands_in.Statement.{statement}
+use Rattle.transmitter.proofs.bits.commands_in.Tie as tie
+
+returns : tie.Need-returns
+returns c = simp (c .bit-at2 .ensures, c .before .bit-at .ensures)
+
+pub commands-in-spec : {M : Type 1} → statement M
+commands-in-spec = tie.close (tie.spec (λ c. search needs) (λ c. search needs) returns)

@@ -1,0 +1,5 @@
+pub mod RCR
+pub mod RSR
+pub mod TCR
+pub mod TMMR
+pub mod TSR

@@ -1,0 +1,9 @@
+pub mod AddressLaws
+pub mod CodeLaws
+pub mod CountLaws
+pub mod CrcLaws
+pub mod CrcSteps
+pub mod LineLaws
+pub mod LoadLaws
+pub mod Registers
+pub mod SliceLaws
