@@ -1,14 +1,18 @@
-/* bench.c - slices with their memory moves a second: the archive against the
- * second library, which is plain C and does not look whether its state is in
- * range, and against that library with such a look before each call. Each load
- * is run on all in turn, several times; the best time of each counts. */
+/* bench.c - slices with their memory moves: the archive beside the second library,
+ * which is plain C. A load runs on both in turn, several times: the lowest time
+ * of each is printed, and the median of the ratios of two runs that followed
+ * each other.
+ *
+ * bench          a table, for 2 units and for 16
+ * bench curve    a line for each count of units: units, then for each load the ns a slice of the archive and of plain C */
 #define _POSIX_C_SOURCE 199309L
 #include <stdio.h>
 #include <stdlib.h>
+#include <string.h>
 #include <time.h>
 #include "state.h"
 
-enum { ROUNDS = 5, SLICES = 400000, MESSAGE = 32768 };
+enum { ROUNDS = 7, SLICES = 200000, MESSAGE = 32768 };
 
 static uint16_t cells[PCL_CELLS_MOST];
 static struct second_link l;
@@ -26,30 +30,24 @@ static uint32_t plain_write_byte(uint32_t u, uint32_t o, uint8_t b) { return sec
 static uint32_t plain_slice(void) { return second_slice(&l, 0, 0); }
 static uint32_t plain_move(uint32_t u, uint32_t s) { return second_move(&l, u, s, memory[u], PCL_MEMORY_MOST); }
 
-static uint32_t checked(uint32_t answer) { return in_range(cells, PCL_CELLS_MOST) ? answer : PCL_BAD_ROOM; }
-static uint32_t checked_fit(const uint32_t *setup, size_t length) { return archive_fit(setup, length) | plain_fit(setup, length); }
-static uint32_t checked_slice(void) { return checked(plain_slice()); }
-static uint32_t checked_move(uint32_t u, uint32_t s) { return checked(plain_move(u, s)); }
-
 static const struct library {
     uint32_t (*fit)(const uint32_t *setup, size_t length);
     uint32_t (*write)(uint32_t unit, uint32_t offset, uint16_t word);
     uint32_t (*write_byte)(uint32_t unit, uint32_t offset, uint8_t byte);
     uint32_t (*slice)(void);
     uint32_t (*move)(uint32_t unit, uint32_t side);
-} libraries[] = {
-    { archive_fit, archive_write, archive_write_byte, archive_slice, archive_move },
-    { plain_fit, plain_write, plain_write_byte, plain_slice, plain_move },
-    { checked_fit, plain_write, plain_write_byte, checked_slice, checked_move }
-};
-enum { LIBRARIES = sizeof libraries / sizeof libraries[0] };
+} archive = { archive_fit, archive_write, archive_write_byte, archive_slice, archive_move },
+  plain = { plain_fit, plain_write, plain_write_byte, plain_slice, plain_move };
 
-static const struct load { const char *name; uint32_t units, silo; bool busy; } loads[] = {
-    { "2 units, long messages both ways", 2, 0, true },
-    { "16 units all sending, address silo of 50", 16, 50, true },
-    { "2 units, idle slices", 2, 0, false },
-    { "16 units, idle slices, address silo of 50", 16, 50, false }
+/* What comes after each slice: moves at both ends until 4, a move at either end, or nothing on a bus where nobody sends. */
+static const struct load { const char *name; enum { UNTIL_4, ONE_MOVE, IDLE } kind; } loads[] = {
+    { "all sending, moves until 4", UNTIL_4 },
+    { "all sending, one move at each end", ONE_MOVE },
+    { "idle slices", IDLE }
 };
+enum { LOADS = sizeof loads / sizeof loads[0] };
+
+struct result { double archive, plain, ratio; };        /* ns a slice; how many times as fast as plain C */
 
 static void must(uint32_t answer)
 {
@@ -60,11 +58,11 @@ static void must(uint32_t answer)
 }
 
 /* Unit u has transmitter u + 1 and receiver u + 1, and sends to the unit behind it. */
-static uint32_t partner(const struct load *load, uint32_t u) { return (u + 1) % load->units; }
+static uint32_t partner(uint32_t units, uint32_t u) { return (u + 1) % units; }
 
-static void begin_message(const struct library *library, const struct load *load, uint32_t u)
+static void begin_message(const struct library *library, uint32_t units, uint32_t u)
 {
-    uint32_t r = partner(load, u);
+    uint32_t r = partner(units, u);
 
     must(library->write(r, PCL_RSR, 0));
     must(library->write(r, PCL_RDBA, 0));
@@ -76,40 +74,50 @@ static void begin_message(const struct library *library, const struct load *load
     must(library->write(u, PCL_TCR, (uint16_t)PCL_TCR_DESTINATION(r + 1) | PCL_TCR_TX_NPR | PCL_TCR_SND_WD | PCL_TCR_ST_TXM));
 }
 
-static void set_up(const struct library *library, const struct load *load)
+/* Up to 2 units the master counts; with more its address silo has 50 addresses, or the largest multiple of the units below that. */
+static void set_up(const struct library *library, uint32_t units, const struct load *load)
 {
-    uint32_t setup[PCL_SETUP(PCL_UNITS_MOST)];
+    uint32_t setup[PCL_SETUP(PCL_UNITS_MOST)], silo = units > 2 ? 50 / units * units : 0;
 
-    for (uint32_t u = 0; u < load->units; u++) {
+    for (uint32_t u = 0; u < units; u++) {
         setup[4 * u] = setup[4 * u + 1] = u + 1;
-        setup[4 * u + 2] = load->units;
+        setup[4 * u + 2] = units < 2 ? 2 : units;
         setup[4 * u + 3] = PCL_MEMORY_MOST;
     }
-    must(library->fit(setup, PCL_SETUP(load->units)));
+    must(library->fit(setup, PCL_SETUP(units)));
     must(library->write_byte(0, PCL_TMMR + 1, (PCL_TMMR_MASTER | PCL_TMMR_AUT_ADR) >> 8));
-    for (uint32_t i = 0; i < load->silo; i++)
-        must(library->write_byte(0, PCL_TMMR, (uint8_t)(i % load->units + 1)));
-    if (load->silo)
+    for (uint32_t i = 0; i < silo; i++)
+        must(library->write_byte(0, PCL_TMMR, (uint8_t)(i % units + 1)));
+    if (silo)
         must(library->write_byte(0, PCL_TMMR + 1, PCL_TMMR_MASTER >> 8));
-    for (uint32_t u = 0; load->busy && u < load->units; u++)
-        begin_message(library, load, u);
+    for (uint32_t u = 0; load->kind != IDLE && u < units; u++)
+        begin_message(library, units, u);
 }
 
-/* After each slice a move at either end of its channel; after a message the next one. */
-static uint32_t run(const struct library *library, const struct load *load)
+static void move_words(const struct library *library, const struct load *load, uint32_t u, uint32_t side)
+{
+    if (load->kind == ONE_MOVE)
+        library->move(u, side);
+    else
+        while (library->move(u, side) == PCL_DONE)
+            ;
+}
+
+/* After a message the next one. */
+static uint32_t run(const struct library *library, uint32_t units, const struct load *load)
 {
     uint32_t delivered = 0;
 
     for (uint32_t i = 0; i < SLICES; i++) {
         uint32_t answer = library->slice(), u = pcl_address(answer) - 1;
 
-        if (!load->busy)
+        if (load->kind == IDLE || u >= units)
             continue;
-        library->move(u, PCL_TRANSMITTER);
-        library->move(partner(load, u), PCL_RECEIVER);
+        move_words(library, load, u, PCL_TRANSMITTER);
+        move_words(library, load, partner(units, u), PCL_RECEIVER);
         if (pcl_a(answer) == 3 && pcl_b(answer) == 3) {
             delivered++;
-            begin_message(library, load, u);
+            begin_message(library, units, u);
         }
     }
     return delivered;
@@ -120,33 +128,75 @@ static double now(void)
     struct timespec t;
 
     clock_gettime(CLOCK_MONOTONIC, &t);
-    return (double)t.tv_sec + 1e-9 * (double)t.tv_nsec;
+    return (double)t.tv_sec * 1e9 + (double)t.tv_nsec;
 }
 
-int main(void)
+static double time_of(const struct library *library, uint32_t units, const struct load *load, uint32_t *delivered)
 {
-    printf("%-44s %9s %9s %9s %9s %9s\n", "", "archive", "plain", "ratio", "checked", "ratio");
-    for (size_t i = 0; i < sizeof loads / sizeof loads[0]; i++) {
-        double best[LIBRARIES];
-        uint32_t delivered[LIBRARIES];
+    double begun;
 
-        for (unsigned round = 0; round < LIBRARIES * ROUNDS; round++) {
-            unsigned which = round % LIBRARIES;
-            double start, taken;
+    set_up(library, units, load);
+    begun = now();
+    *delivered = run(library, units, load);
+    return (now() - begun) / SLICES;
+}
 
-            set_up(&libraries[which], &loads[i]);
-            start = now();
-            delivered[which] = run(&libraries[which], &loads[i]);
-            taken = now() - start;
-            if (round < LIBRARIES || taken < best[which])
-                best[which] = taken;
-        }
-        if (delivered[0] != delivered[1] || (loads[i].units == 2 && loads[i].busy && delivered[0] == 0))
-            return printf("bench: %u and %u messages delivered\n", (unsigned)delivered[0], (unsigned)delivered[1]), 1;
-        printf("%-44s %9.2f %9.2f %9.2f %9.2f %9.2f\n", loads[i].name, SLICES / best[0] / 1e6, SLICES / best[1] / 1e6,
-               best[1] / best[0], SLICES / best[2] / 1e6, best[2] / best[0]);
+static int by_size(const void *a, const void *b)
+{
+    double x = *(const double *)a, y = *(const double *)b;
+
+    return (x > y) - (x < y);
+}
+
+static struct result measure(uint32_t units, const struct load *load)
+{
+    double archives[ROUNDS], plains[ROUNDS], ratios[ROUNDS];
+
+    for (unsigned i = 0; i < ROUNDS; i++) {
+        uint32_t delivered, expected;
+
+        archives[i] = time_of(&archive, units, load, &delivered);
+        plains[i] = time_of(&plain, units, load, &expected);
+        ratios[i] = plains[i] / archives[i];
+        if (delivered != expected)
+            must(PCL_NOTHING);
     }
-    puts("millions of slices with their moves a second: of the archive, of plain C, of plain C with a check of the ranges;");
-    puts("ratio: the archive's speed in the other's");
+    qsort(archives, ROUNDS, sizeof archives[0], by_size);
+    qsort(plains, ROUNDS, sizeof plains[0], by_size);
+    qsort(ratios, ROUNDS, sizeof ratios[0], by_size);
+    return (struct result){ archives[0], plains[0], ratios[ROUNDS / 2] };
+}
+
+static void table(void)
+{
+    printf("%-36s %5s %12s %12s %8s\n", "load", "units", "archive, ns", "plain C, ns", "ratio");
+    for (size_t i = 0; i < LOADS; i++)
+        for (uint32_t units = 2; units <= 16; units += 14) {
+            struct result r = measure(units, &loads[i]);
+
+            printf("%-36s %5u %12.1f %12.1f %8.2f\n", loads[i].name, (unsigned)units, r.archive, r.plain, r.ratio);
+        }
+}
+
+static void curve(void)
+{
+    for (uint32_t units = 1; units <= PCL_UNITS_MOST; units++) {
+        printf("%u", (unsigned)units);
+        for (size_t i = 0; i < LOADS; i++) {
+            struct result r = measure(units, &loads[i]);
+
+            printf(" %.1f %.1f", r.archive, r.plain);
+        }
+        printf("\n");
+        fflush(stdout);
+    }
+}
+
+int main(int count, char **arguments)
+{
+    if (count > 1 && !strcmp(arguments[1], "curve"))
+        curve();
+    else
+        table();
     return 0;
 }

@@ -12,11 +12,15 @@
  * calls on one link come one after the other; calls on different links may run
  * at the same time. Between calls the cells may be copied, stored and loaded
  * again, in another process too: docs/STATE.md says what each of them holds.
+ * Only the first two cells, the header, can be out of range. Whatever the others
+ * hold has a meaning. One call can answer PCL_BAD_ROOM for it: pcl_move, which
+ * asks as much memory as the cells of its unit say.
  *
  * What comes back. Every call takes every argument, ends, and answers a number
  * with a value above it; pcl_number() and pcl_value() take an answer apart. A
  * call answered PCL_NOT_FITTED, PCL_NO_REGISTER, PCL_BYTE_REFUSED, PCL_NOTHING,
- * PCL_BAD_SETUP or PCL_BAD_ROOM has changed no cell and no word of a memory.
+ * PCL_BAD_SETUP or PCL_BAD_ROOM has changed no cell and no word of a memory,
+ * whatever they hold. What any other call changes is in docs/STATE.md too.
  * Where several numbers fit, the first of PCL_BAD_ROOM, PCL_BAD_SETUP,
  * PCL_NOT_FITTED, PCL_NO_REGISTER, PCL_BYTE_REFUSED is answered. */
 #ifndef PCL_H
@@ -39,7 +43,8 @@ enum {
     PCL_DROPPED = 6,        /* TSDB: the word is lost, OVERUN is set; TMMR: no address is loaded, the high byte is done */
     PCL_BAD_SETUP = 7,      /* the set-up breaks a rule, or the parity mask is above 1 */
     PCL_NO_MASTER = 8,      /* no master: a secondary took over, or who wants to send has MST DWN; nothing was sent */
-    PCL_BAD_ROOM = 9        /* too little room lent; except at pcl_fit, cells that docs/STATE.md has as out of range */
+    PCL_BAD_ROOM = 9        /* too little room lent; except at pcl_fit, a header of more than 16 units, or with a master that is
+                             * not one of its units */
 };
 
 enum { PCL_TRANSMITTER = 0, PCL_RECEIVER = 1 };
@@ -96,8 +101,9 @@ static inline unsigned pcl_b(uint32_t answer) { return pcl_value(answer) >> 7 & 
 /* Makes a link. The set-up has four numbers for each unit: transmitter address
  * and receiver address (1 to 31; no two transmitters have the same, and no two
  * receivers), counter switch (2 to 31), and memory length in words (1 to
- * PCL_MEMORY_MOST). Units are numbered from 0 in this order. The cells may hold anything before; PCL_CELLS(units) of them are
- * asked (at most PCL_CELLS_MOST), and those past that are left alone.
+ * PCL_MEMORY_MOST). Units are numbered from 0 in this order. The cells may hold
+ * anything before; PCL_CELLS(units) of them are asked (at most PCL_CELLS_MOST),
+ * and those past that are left alone.
  * Answers 0, 7, 9. */
 uint32_t pcl_fit(uint16_t *cells, size_t cells_length, const uint32_t *setup, size_t setup_length);
 
@@ -118,14 +124,16 @@ uint32_t pcl_slice(uint16_t *cells, size_t cells_length, uint16_t data_mask, uin
 
 /* Moves one word between a unit's memory and a silo of it: from memory at side
  * PCL_TRANSMITTER, to memory at side PCL_RECEIVER. The memory is that of the
- * named unit; it has at least the fitted length, and what stands past that is
- * left alone. NXL, BC OFL and memory overflow come with number 0.
+ * named unit; it has at least the fitted length, else 9, and what stands past
+ * that is left alone. The fitted length is the one that the unit's cells hold,
+ * whoever wrote them. NXL, BC OFL and memory overflow come with number 0.
  * Answers 0, 1, 4, 9. */
 uint32_t pcl_move(uint16_t *cells, size_t cells_length, uint16_t *memory, size_t memory_length, uint32_t unit, uint32_t side);
 
 /* A period of time has passed for a unit, at both of its sides: at a transmitter
- * that is BUSY, or a receiver whose channel is open, the second in a row with no
- * word accepted in between sets TIM OUT. Answers 0, 1, 9. */
+ * that is BUSY, or a receiver whose channel is open, the second in a row sets TIM
+ * OUT, unless a word was accepted in between or it was not BUSY or not open.
+ * Answers 0, 1, 9. */
 uint32_t pcl_period(uint16_t *cells, size_t cells_length, uint32_t unit);
 
 /* TX INIT and RC INIT of a unit. Answers 0, 1, 9. */

@@ -1,12 +1,18 @@
 /* both.h - the archive and the second library side by side. Each call is made on
  * both; then the two answers have to be equal, the archive's cells have to be
  * docs/STATE.md's form of the second library's state, and the registers, levels
- * and memories have to show the same. The first difference ends the program. */
+ * and memories have to show the same. The first difference ends the program.
+ *
+ * Where cells were damaged, the second library reads them by docs/STATE.md, and
+ * from then to the next fit the archive's cells have to be read as its state.
+ * What a call does not put back has to stay as it is, cell by cell, and what it
+ * puts back has to have its normal form. */
 #ifndef BOTH_H
 #define BOTH_H
 
 #include <stdio.h>
 #include <stdlib.h>
+#include "puts.h"
 #include "state.h"
 
 static struct second_link l;
@@ -16,6 +22,8 @@ static uint16_t memory[PCL_UNITS_MOST][PCL_MEMORY_MOST], memory_of_second[PCL_UN
 static unsigned long long calls;
 /* How much is compared after each call; look_everywhere compares the rest. */
 static enum { ANSWERS, CELLS, EVERYTHING } depth = EVERYTHING;
+/* Cells hold patterns that no call writes. */
+static bool untidy;
 
 static void differ(const char *call, const char *what, uint32_t archive, uint32_t second)
 {
@@ -42,6 +50,12 @@ static void look_at_cells(const char *call, uint32_t number)
     memcpy(got, cells, sizeof got);
     memcpy(wanted, cells_before, sizeof wanted);
     if (number == PCL_DONE || number == PCL_NOT_STARTED || number == PCL_DROPPED || number == PCL_NO_MASTER) {
+        if (untidy) {
+            static struct second_link read;
+
+            of_cells(cells, &read);
+            as_cells(&read, got);
+        }
         as_cells(&l, wanted);
         forget_unseen(wanted);
         forget_unseen(got);
@@ -53,6 +67,36 @@ static void look_at_cells(const char *call, uint32_t number)
             differ(call, i == UNITS ? "the count of units" : "who has MASTER", got[i], wanted[i]);
     for (uint32_t i = FIRST_BLOCK; i < PCL_CELLS_MOST; i++)
         must_agree(call, "cell", (i - FIRST_BLOCK) % BLOCK, (i - FIRST_BLOCK) / BLOCK, got[i], wanted[i]);
+}
+
+/* That a receiver's verdict is good where none is owed is a bit that nothing looks at. */
+static uint16_t in_normal_form(const uint16_t *normal, size_t place, uint32_t cell)
+{
+    bool owed = cells[place + RECEIVER + STATUS] & 1u << 6;
+
+    return cell == RECEIVER + STATUS && !owed ? normal[place + cell] | (cells[place + cell] & 1u << 8) : normal[place + cell];
+}
+
+static void look_at_damaged_cells(const char *call)
+{
+    static struct second_link read;
+    static uint16_t normal[PCL_CELLS_MOST];
+
+    of_cells(cells, &read);
+    as_cells(&read, normal);
+    for (uint32_t unit = 0; unit < l.units; unit++) {
+        size_t place = block_at(unit);
+
+        for (uint32_t i = 0; i < TRANSMITTER; i++)
+            must_agree(call, "own cell", i, unit, cells[place + i], cells_before[place + i]);
+        for (size_t k = 0; k < PARTS; k++)
+            if (put_back[unit] & parts[k].bit)
+                for (uint32_t i = parts[k].first; i < parts[k].head; i++)
+                    must_agree(call, "cell put back,", i, unit, cells[place + i], in_normal_form(normal, place, i));
+            else
+                for (uint32_t i = parts[k].first; i < parts[k].end; i++)
+                    must_agree(call, "cell left alone,", i, unit, cells[place + i], cells_before[place + i]);
+    }
 }
 
 /* Registers whose read may remove something come last; all reads are on copies. */
@@ -100,6 +144,8 @@ static uint32_t look(const char *call, uint32_t archive, uint32_t second)
     if (archive != second)
         differ(call, "the answer", archive, second);
     if (depth >= CELLS) {
+        if (untidy)
+            look_at_damaged_cells(call);
         look_at_cells(call, pcl_number(archive));
         memcpy(cells_before, cells, sizeof cells);
     }
@@ -114,60 +160,74 @@ static inline void forget_both(void)
     memset(cells, 0, sizeof cells);
     memset(cells_before, 0, sizeof cells);
     memset(&l, 0, sizeof l);
+    untidy = false;
 }
 
 static uint32_t call_fit(const uint32_t *setup, size_t length)
 {
-    return look("fit", pcl_fit(cells, PCL_CELLS_MOST, setup, length), second_fit(&l, setup, length));
+    uint32_t archive = pcl_fit(cells, PCL_CELLS_MOST, setup, length);
+
+    puts_nothing();
+    untidy = untidy && archive != PCL_DONE;
+    return look("fit", archive, second_fit(&l, setup, length));
 }
 
 static uint32_t call_write(uint32_t unit, uint32_t offset, uint32_t word)
 {
+    expect_write(unit, offset, word);
     return look("write", pcl_write(cells, PCL_CELLS_MOST, unit, offset, (uint16_t)word),
                 second_write(&l, unit, offset, (uint16_t)word));
 }
 
 static uint32_t call_write_byte(uint32_t unit, uint32_t offset, uint32_t byte)
 {
+    expect_write_byte(unit, offset, byte);
     return look("byte write", pcl_write_byte(cells, PCL_CELLS_MOST, unit, offset, (uint8_t)byte),
                 second_write_byte(&l, unit, offset, (uint8_t)byte));
 }
 
 static uint32_t call_read(uint32_t unit, uint32_t offset)
 {
+    expect_read(unit, offset);
     return look("read", pcl_read(cells, PCL_CELLS_MOST, unit, offset), second_read(&l, unit, offset));
 }
 
 static uint32_t call_slice(uint32_t data_mask, uint32_t parity_mask)
 {
-    return look("slice", pcl_slice(cells, PCL_CELLS_MOST, (uint16_t)data_mask, parity_mask),
-                second_slice(&l, (uint16_t)data_mask, parity_mask));
+    uint32_t archive = pcl_slice(cells, PCL_CELLS_MOST, (uint16_t)data_mask, parity_mask);
+
+    expect_slice(archive);
+    return look("slice", archive, second_slice(&l, (uint16_t)data_mask, parity_mask));
 }
 
 /* A move alone is lent a memory. */
 static uint32_t call_move(uint32_t unit, uint32_t side, size_t lent)
 {
     uint32_t place = unit % PCL_UNITS_MOST;
-    uint32_t answer = look("move", pcl_move(cells, PCL_CELLS_MOST, memory[place], lent, unit, side),
-                           second_move(&l, unit, side, memory_of_second[place], lent));
+    uint32_t archive = pcl_move(cells, PCL_CELLS_MOST, memory[place], lent, unit, side);
 
+    expect_move(unit, side, archive);
+    look("move", archive, second_move(&l, unit, side, memory_of_second[place], lent));
     if (depth >= CELLS)
         look_at_memory("move", place, lent);
-    return answer;
+    return archive;
 }
 
 static uint32_t call_period(uint32_t unit)
 {
+    expect_period(unit);
     return look("period", pcl_period(cells, PCL_CELLS_MOST, unit), second_period(&l, unit));
 }
 
 static uint32_t call_reset(uint32_t unit)
 {
+    expect_reset(unit);
     return look("reset", pcl_reset(cells, PCL_CELLS_MOST, unit), second_reset(&l, unit));
 }
 
 static uint32_t call_level(uint32_t unit, uint32_t side)
 {
+    puts_nothing();
     return look("level", pcl_level(cells, PCL_CELLS_MOST, unit, side), second_interrupt_level(&l, unit, side));
 }
 

@@ -1,5 +1,5 @@
-/* state.h - docs/STATE.md in C: where things lie in the lent cells, which of
- * them are limited, and a state of the second library as cells. */
+/* state.h - docs/STATE.md in C: where things lie in the lent cells, a state of the
+ * second library as cells, and any cells as a state of the second library. */
 #ifndef STATE_H
 #define STATE_H
 
@@ -15,42 +15,13 @@ enum {
     SECTION_WORD = 1, ADDRESSES = 2                                     /* .. of a master section */
 };
 
-/* The limited cells of a block, and the largest value of each. */
-static const struct limit { unsigned cell; uint16_t most; } limits[] = {
-    { 0, 30 }, { 1, 30 }, { 2, 1 },
-    { TRANSMITTER + HELD, 64 }, { TRANSMITTER + WORDS, 128 }, { TRANSMITTER + LATCHED, 31 },
-    { TRANSMITTER + ADDRESS, 32767 }, { TRANSMITTER + COUNT_LEFT, 32767 },
-    { RECEIVER + HELD, 64 }, { RECEIVER + WORDS, 128 }, { RECEIVER + TRUNCATED, 1 },
-    { RECEIVER + ADDRESS, 32767 }, { RECEIVER + COUNT_LEFT, 32767 },
-    { SECTION + HELD, 50 }, { SECTION + SECTION_WORD, 8191 }
-};
-enum { LIMITS = sizeof limits / sizeof limits[0] };
-
 static inline size_t block_at(size_t unit) { return FIRST_BLOCK + BLOCK * unit; }
 
-/* "the counter's next address + 32 x switch": between 1 and the switch. */
-static inline bool counter_in_range(uint16_t word)
-{
-    return (word & 31) >= 1 && (word & 31) <= (word >> 5 & 31);
-}
-
-static inline bool block_in_range(const uint16_t *block)
-{
-    for (size_t i = 0; i < LIMITS; i++)
-        if (block[limits[i].cell] > limits[i].most)
-            return false;
-    return counter_in_range(block[SECTION + SECTION_WORD]);
-}
-
+/* Number 9 but for a memory: the header, and the room. */
 static inline bool in_range(const uint16_t *cells, size_t length)
 {
-    if (length < FIRST_BLOCK || cells[UNITS] > PCL_UNITS_MOST || length < PCL_CELLS(cells[UNITS])
-        || cells[MASTER] > cells[UNITS])
-        return false;
-    for (size_t unit = 0; unit < cells[UNITS]; unit++)
-        if (!block_in_range(cells + block_at(unit)))
-            return false;
-    return true;
+    return length >= FIRST_BLOCK && cells[UNITS] <= PCL_UNITS_MOST && length >= PCL_CELLS(cells[UNITS])
+        && cells[MASTER] <= cells[UNITS];
 }
 
 static inline void side_as_cells(const struct second_side *s, uint16_t *c)
@@ -101,6 +72,82 @@ static inline void as_cells(const struct second_link *l, uint16_t *cells)
             cells[block_at(l->transmitter_at[address] - 1u)] = address - 1;
         if (l->receiver_at[address])
             cells[block_at(l->receiver_at[address] - 1u) + 1] = address - 1;
+    }
+}
+
+/* ---- and back: what every pattern of the cells means */
+
+static inline unsigned at_most(unsigned value, unsigned most) { return value < most ? value : most; }
+
+static inline void side_of_cells(const uint16_t *c, struct second_side *s)
+{
+    memset(s, 0, sizeof *s);
+    s->silo.held = (uint8_t)at_most(c[HELD], SECOND_DATA_SILO);
+    memcpy(s->silo.word, c + SILO, sizeof s->silo.word);
+    s->words = (uint8_t)at_most(c[WORDS], 128);
+    s->bus_address = (uint16_t)(c[ADDRESS] % 32768 * 2);
+    s->byte_count = (uint16_t)(c[COUNT_LEFT] % 32768 * 2);
+    s->command = c[COMMAND] & (uint16_t)~(1u << 1 | 1u << 3);
+    s->loaded = c[COMMAND] >> 1 & 1;
+    s->crc = c[CRC];
+}
+
+static inline void transmitter_of_cells(const uint16_t *c, struct second_transmitter *t)
+{
+    side_of_cells(c, &t->side);
+    t->destination = c[LATCHED] % 32;
+    t->side.status = c[STATUS] & (uint16_t)~(1u << 6 | 1u << 8 | 1u << 15);
+    t->side.open = c[STATUS] >> 6 & 1;
+    t->ending = (c[STATUS] >> 8 & 1) && t->side.open;
+    t->crc_unanswered = (c[STATUS] >> 15 & 1) && t->side.words == 128;
+    /* no mark where it is not BUSY */
+    t->side.mark = (c[COMMAND] >> 3 & 1) && (t->side.open || (c[COMMAND] & PCL_TCR_SND_WD));
+}
+
+static inline void receiver_of_cells(const uint16_t *c, struct second_receiver *r)
+{
+    side_of_cells(c, &r->side);
+    r->side.status = c[STATUS] & (uint16_t)~(1u << 4 | 1u << 6 | 1u << 8 | 1u << 15);
+    r->side.open = c[STATUS] >> 4 & 1;
+    r->truncated = c[TRUNCATED] % 2 && r->side.open;
+    r->verdict = !(c[STATUS] >> 6 & 1) ? 0 : c[STATUS] >> 8 & 1 ? 1 : 2;
+    r->bad_parity = c[STATUS] >> 15 & 1;
+    /* no mark where it is not open */
+    r->side.mark = (c[COMMAND] >> 3 & 1) && r->side.open;
+}
+
+static inline void master_of_cells(const uint16_t *c, struct second_master *m)
+{
+    unsigned word = c[SECTION_WORD], place = word & 31;
+
+    memset(m, 0, sizeof *m);
+    m->silo.held = (uint8_t)at_most(c[HELD], SECOND_ADDRESS_SILO);
+    for (unsigned i = 0; i < m->silo.held; i++)
+        m->silo.address[i] = c[ADDRESSES + i] % 32;
+    m->counter_switch = (uint8_t)((word >> 5 & 31) < 2 ? 2 : word >> 5 & 31);
+    m->counter = (uint8_t)(place < 1 || place > m->counter_switch ? m->counter_switch : place);
+    /* "An empty address silo sets AUT ADR at once." */
+    m->automatic = (word >> 10 & 1) || m->silo.held == 0;
+    m->secondary = word >> 11 & 1;
+    m->now_master = word >> 12 & 1;
+}
+
+/* What the cells hold, whatever it is; the header and the room are in range. */
+static inline void of_cells(const uint16_t *cells, struct second_link *l)
+{
+    memset(l, 0, sizeof *l);
+    l->units = (uint8_t)cells[UNITS];
+    l->master = (uint8_t)cells[MASTER];
+    for (size_t unit = l->units; unit-- > 0;) {             /* of two units with one address the lower is found */
+        const uint16_t *c = cells + block_at(unit);
+        struct second_unit *u = &l->unit[unit];
+
+        l->transmitter_at[at_most(c[0], 30) + 1] = (uint8_t)(unit + 1);
+        l->receiver_at[at_most(c[1], 30) + 1] = (uint8_t)(unit + 1);
+        u->memory_length = ((uint32_t)(c[2] % 2) << 16 | c[3]) + 1;
+        transmitter_of_cells(c + TRANSMITTER, &u->transmitter);
+        receiver_of_cells(c + RECEIVER, &u->receiver);
+        master_of_cells(c + SECTION, &u->master);
     }
 }
 

@@ -1,14 +1,15 @@
 /* calls.c - random scenes on the archive and the second library, compared after
- * every call; between the calls damaged and untidy states, on the archive alone.
+ * every call; after each scene states that number 9 refuses, on the archive
+ * alone, and units whose cells hold anything, on both.
  *
  * calls [calls [seed]] */
 #define DRIVE_MEMORY 0
 #define DRIVE_MOST 0xFFFFFFFF
-#include "both.h"
+#include "damage.h"
 #include "scenes.h"
 #include "reached.h"
 
-static unsigned long long damaged, untidy;
+static unsigned long long refused, damages;
 static uint16_t copy[PCL_CELLS_MOST], copy_before[PCL_CELLS_MOST];
 
 static void must(bool holds, const char *what)
@@ -36,66 +37,30 @@ static uint32_t any_call(size_t length)
     }
 }
 
-/* One thing out of its range: the room, the header, a cell with a limit, or a counter. */
-static size_t damage(void)
+/* One thing out of its range: the room or the header. */
+static size_t damage_header(void)
 {
-    uint16_t *block = copy + block_at(fitted_unit());
-    const struct limit *limit = &limits[below(LIMITS)];
-    uint16_t *word = &block[SECTION + SECTION_WORD];
-
-    switch (l.units ? below(8) : below(3)) {
+    switch (below(3)) {
     case 0: return below((uint32_t)PCL_CELLS(l.units));
     case 1: copy[UNITS] = (uint16_t)(17 + below(0x10000 - 17)); break;
-    case 2: copy[MASTER] = (uint16_t)(l.units + 1 + below(0xFFFFu - l.units)); break;
-    case 3: *word = *word & 0xFFE0; break;
-    case 4: *word = (uint16_t)((*word & 0xFC00) | (1 + below(31)) | below(*word % 32) << 5); break;
-    default: block[limit->cell] = (uint16_t)(limit->most + 1 + below(once_in(2) ? 1 : 0xFFFFu - limit->most)); break;
+    default: copy[MASTER] = (uint16_t)(l.units + 1 + below(0xFFFFu - l.units)); break;
     }
     return PCL_CELLS_MOST;
 }
 
 /* Number 9: every cell and the memories as they were. */
-static void try_damaged(void)
+static void try_refused(void)
 {
     size_t length;
 
     memcpy(copy, cells, sizeof copy);
-    length = damage();
-    if (in_range(copy, length))
-        return;
-    damaged++;
+    length = damage_header();
+    refused++;
     memcpy(copy_before, copy, sizeof copy);
-    must(any_call(length) == PCL_BAD_ROOM, "a damaged state is not answered 9");
+    must(any_call(length) == PCL_BAD_ROOM, "a damaged header is not answered 9");
     must(!memcmp(copy, copy_before, sizeof copy), "number 9 changed a cell");
 }
 
-/* Any values in range, of which no call would leave most: never 9, and again in range. */
-static void try_untidy(void)
-{
-    uint32_t number, counter_switch;
-
-    memcpy(copy, cells, sizeof copy);
-    for (size_t unit = 0; unit < l.units; unit++) {
-        uint16_t *block = copy + block_at(unit), *word = &block[SECTION + SECTION_WORD];
-
-        for (size_t i = 0; i < BLOCK; i++)
-            if (once_in(2))
-                block[i] = any_word();
-        for (size_t i = 0; i < LIMITS; i++)
-            block[limits[i].cell] %= limits[i].most + 1;
-        counter_switch = 1 + below(31);
-        *word = (uint16_t)((*word & 0x1C00) | counter_switch << 5 | (1 + below(counter_switch)));
-    }
-    copy[MASTER] %= l.units + 1;
-    untidy++;
-    for (unsigned i = 0; i < 30; i++) {
-        number = pcl_number(any_call(PCL_CELLS_MOST));
-        must(number != PCL_BAD_ROOM, "a state in range is answered 9");
-        must(in_range(copy, PCL_CELLS_MOST), "a state in range is left out of range");
-    }
-}
-
-/* What moves at untidy states have done to the memories, undone; then all compared. */
 static void between_scenes(void)
 {
     static uint16_t kept[PCL_UNITS_MOST][PCL_MEMORY_MOST];
@@ -103,11 +68,14 @@ static void between_scenes(void)
     look_everywhere("the end of a scene");
     memcpy(kept, memory, sizeof kept);
     for (unsigned i = 0; i < 100; i++)
-        try_damaged();
+        try_refused();
     must(!memcmp(memory, kept, sizeof kept), "number 9 changed a memory");
-    for (unsigned i = 0; i < 10; i++)
-        try_untidy();
-    memcpy(memory, kept, sizeof kept);
+    for (unsigned i = 0; i < 20 && l.units; i++) {
+        damage_unit(fitted_unit(), 0);
+        damages++;
+        look_everywhere("cells that were damaged");
+        wild_calls(100);
+    }
 }
 
 /* What no script reaches: the last word of the address space, and a memory lent too short. */
@@ -149,7 +117,7 @@ int main(int count, char **arguments)
         scene();
     }
     look_everywhere("the end");
-    printf("calls: %llu calls the same in every cell, register and word; %llu damaged states refused, %llu untidy ones kept in range\n",
-           calls, damaged, untidy);
+    printf("calls: %llu calls the same in every cell, register and word, %llu damages on the way; %llu bad headers refused\n", calls,
+           damages, refused);
     return 0;
 }

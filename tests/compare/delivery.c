@@ -1,15 +1,16 @@
 /* delivery.c - demand 3 on the archive and the second library: a message of n
  * words, opened under document 01's conditions, succeeds at both ends on exactly
  * T's slice n - 1 + 2 x (n/128 rounded up) after the opening, within L times as
- * many slices, and the receiving memory holds exactly its words.
+ * many slices, and the receiving memory holds exactly its words; also beside
+ * units whose cells hold anything at the opening.
  *
  * delivery [rounds [seed]] */
 #define DRIVE_MEMORY PCL_MEMORY_MOST
 #define DRIVE_MOST 0xFFFFFFFF
-#include "both.h"
+#include "damage.h"
 #include "scenes.h"
 
-static struct { uint32_t n, units, t, r, master, cycle; bool silo, busy; } trial;
+static struct { uint32_t n, units, t, r, master, cycle; bool silo, busy, damaged; } trial;
 static uint32_t from, to;       /* the first word of both stretches */
 static unsigned long long messages, slices;
 
@@ -18,7 +19,8 @@ static void must(bool holds, const char *what)
     if (holds)
         return;
     printf("delivery: n = %u, %s, %s, %s: %s\n", (unsigned)trial.n, trial.silo ? "address silo" : "counter",
-           trial.t == trial.r ? "to itself" : "to another", trial.busy ? "others busy" : "others quiet", what);
+           trial.t == trial.r ? "to itself" : "to another",
+           trial.damaged ? "others damaged" : trial.busy ? "others busy" : "others quiet", what);
     exit(1);
 }
 
@@ -170,13 +172,23 @@ static uint32_t codes_at(uint32_t i)
 
 static uint32_t status(uint32_t unit, uint32_t offset) { return pcl_value(pcl_read(cells, PCL_CELLS_MOST, unit, offset)); }
 
+/* Whatever the cells of the other units hold, but for their addresses: it is T that has T's. */
+static void damage_others(void)
+{
+    for (uint32_t u = 0; u < l.units; u++)
+        if (u != trial.t && u != trial.r && u != trial.master && !once_in(4))
+            damage_unit(u, 2);
+}
+
 static void run_message(void)
 {
     uint32_t own = 0, after = 0, answer;
 
-    do
+    do {
+        if (trial.damaged && next_address() == t_address())
+            damage_others();
         answer = one_slice(false);
-    while (pcl_address(answer) != t_address());
+    } while (pcl_address(answer) != t_address());
     must(pcl_value(answer) >> 5 == 14, "not opened");
     while (own < last_slice()) {
         must(!(status(trial.t, PCL_TSR) & 0x80B0) && !(status(trial.r, PCL_RSR) & 0x80A0), "a status bit before the end");
@@ -223,6 +235,7 @@ int main(int count, char **arguments)
         trial.n = lengths[i / 8 % (sizeof lengths / sizeof lengths[0])];
         trial.silo = i & 1;
         trial.busy = i & 2;
+        trial.damaged = trial.busy && once_in(2);
         trial.units = trial.busy ? 3 + below(14) : 2;
         trial.t = below(trial.units);
         trial.r = i & 4 ? trial.t : (trial.t + 1 + below(trial.units - 1)) % trial.units;

@@ -22,35 +22,90 @@ static void all_answer(uint32_t number)
     }
 }
 
-/* 9: a cell above its limit, in the first unit and in the last one. */
-static void cells_out_of_range(uint32_t units)
+/* What changes nothing, whatever a unit's cells hold: reads that only show, writes without effect, refusals. */
+static void leave_all(uint32_t u)
 {
-    for (uint32_t u = 0; u < units; u += units > 1 ? units - 1 : 1)
-        for (size_t i = 0; i < LIMITS; i++)
-            for (unsigned far = 0; far < 2; far++) {
-                uint16_t *cell = &cells[block_at(u) + limits[i].cell], kept = *cell;
+    static const uint32_t shows[] = { PCL_TCR, PCL_TSR, PCL_TSBC, PCL_TSBA, PCL_TSCRC, PCL_RCR, PCL_RSR, PCL_RDBC, PCL_RDBA, PCL_RDCRC };
+    static const uint32_t ignores[] = { PCL_TSCRC, PCL_RDDB, PCL_RDCRC };
 
-                *cell = far ? 0xFFFF : (uint16_t)(limits[i].most + 1);
+    for (size_t i = 0; i < sizeof shows / sizeof shows[0]; i++)
+        REFUSED(pcl_number(rd(u, shows[i])), 0);
+    for (size_t i = 0; i < sizeof ignores / sizeof ignores[0]; i++)
+        REFUSED(wr(u, ignores[i], 0xFFFF), 0);
+    for (uint32_t half = 0; half < 2; half++) {
+        REFUSED(pcl_number(lv(u, half)), 0);
+        REFUSED(wb(u, PCL_TSCRC + half, 0xFF), 0);
+        REFUSED(wb(u, PCL_RDCRC + half, 0xFF), 0);
+        REFUSED(wb(u, PCL_TSDB + half, 0xFF), PCL_BYTE_REFUSED);
+        REFUSED(wb(u, PCL_RDDB + half, 0xFF), PCL_BYTE_REFUSED);
+        REFUSED(wb(u, 14 + half, 0xFF), PCL_NO_REGISTER);
+        REFUSED(wb(u, 28 + half, 0xFF), PCL_NO_REGISTER);
+        REFUSED(rd(u, 14 + half), PCL_NO_REGISTER);
+        REFUSED(wr(u, 28 + half, 0xFFFF), PCL_NO_REGISTER);
+    }
+    REFUSED(sl(0, 2), PCL_BAD_SETUP);
+}
+
+/* What may find nothing to do: then nothing has changed, else it is undone. */
+static void done_or_left(uint32_t answer)
+{
+    if (pcl_number(answer) != PCL_DONE)
+        REFUSED(answer, answer);
+    memcpy(cells, cells_before, length * sizeof *cells);
+    memcpy(memory, memory_before, memory_length * sizeof *memory);
+}
+
+static void calls_that_may_leave_all(uint32_t u)
+{
+    done_or_left(mv(u, PCL_TRANSMITTER));
+    done_or_left(mv(u, PCL_RECEIVER));
+    done_or_left(rd(u, PCL_TSDB));
+    done_or_left(rd(u, PCL_RDDB));
+    done_or_left(wb(u, PCL_TMMR, 9));
+}
+
+/* A slice in which nobody sends: it steps the section of the master, which is the last unit, and leaves all else. */
+static void idle_slice(uint32_t units)
+{
+    size_t section = block_at(units - 1) + SECTION;
+    uint32_t answer = sl(0, 0);
+
+    memcpy(cells + section, cells_before + section, (BLOCK - SECTION) * sizeof *cells);
+    REFUSED(pcl_number(answer) | pcl_a(answer) | pcl_b(answer), 0);
+}
+
+/* One cell of the first unit or of the last that holds what no call may have written: no call is refused for it. */
+static void cells_hold_anything(uint32_t units, bool sending)
+{
+    static const uint16_t patterns[] = { 0, 1, 31, 51, 65, 129, 0x7FFF, 0x8000, 0xFFFF };
+
+    for (uint32_t u = 0; u < units; u += units > 1 ? units - 1 : 1)
+        for (uint32_t i = 0; i < BLOCK; i++)
+            for (size_t p = 0; p < sizeof patterns / sizeof patterns[0]; p++) {
+                uint16_t *cell = &cells[block_at(u) + i], kept = *cell;
+
+                *cell = patterns[p];
                 keep();
-                all_answer(PCL_BAD_ROOM);
+                if (sending) {
+                    leave_all(u);
+                    calls_that_may_leave_all(u);
+                    REFUSED(pcl_number(rd(units - 1 - u, PCL_TSR)), 0);
+                } else if (i != TRANSMITTER + COMMAND && i != TRANSMITTER + STATUS) {   /* which tell whether it sends */
+                    idle_slice(units);
+                }
                 *cell = kept;
             }
 }
 
-/* 9: the counter 0, above its switch, or with a switch of 0. */
-static void counters_out_of_range(uint32_t units)
+static void damaged_units(uint32_t units)
 {
-    static const uint16_t words[] = { 0, 2 << 5, 31 << 5, 2 << 5 | 3, 1 << 5 | 31, 1, 31 };
-
-    for (uint32_t u = 0; u < units; u++)
-        for (size_t i = 0; i < sizeof words / sizeof words[0]; i++) {
-            uint16_t *cell = &cells[block_at(u) + SECTION + SECTION_WORD], kept = *cell;
-
-            *cell = (uint16_t)((kept & 0x1C00) | words[i]);
-            keep();
-            all_answer(PCL_BAD_ROOM);
-            *cell = kept;
-        }
+    if (units == 0)
+        return;
+    state_of(units);
+    cells_hold_anything(units, true);
+    IS(fit(good(units), PCL_SETUP(units)), 0);
+    IS(wb(units - 1, PCL_TMMR + 1, (PCL_TMMR_MASTER | PCL_TMMR_AUT_ADR) >> 8), 0);
+    cells_hold_anything(units, false);
 }
 
 /* 9: the header; and the room, which is looked at before anything in it. */
@@ -84,9 +139,8 @@ static void all_nines(void)
 
     lend_memory(MEMORY + 15);
     for (size_t i = 0; i < sizeof counts / sizeof counts[0]; i++) {
+        damaged_units(counts[i]);
         state_of(counts[i]);
-        cells_out_of_range(counts[i]);
-        counters_out_of_range(counts[i]);
         header_out_of_range(counts[i]);
     }
 }

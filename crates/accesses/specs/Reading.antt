@@ -1,4 +1,5 @@
 -- Document 01, Registers: a word read at one unit. Offsets below RCR are the transmitter's, but for TMMR; the others the receiver's.
+-- A read that removes something puts its side back; any other leaves every cell.
 -- Assumes nothing.
 use mathlib.Core.List.{List}
 use Prim.Native.Nat.{ℕ}
@@ -16,28 +17,44 @@ use Rattle.words.specs.declared.answers.Read.{Read}
 use Rattle.accesses.specs.Masters.{mastershipOf}
 use Rattle.accesses.specs.Offsets.{TMMR, RCR}
 
--- the answer, and the cells with the side put back
+-- ---- the answer, and the cells with the side put back
+
 abbrev pub afterTransmitter : List ℕ → ℕ → TD.Reading → Read × List ℕ
 afterTransmitter cells unit r = (r .answer, putTransmitter cells unit (r .side))
-
-abbrev pub transmitterRead : List ℕ → ℕ → ℕ → Read × List ℕ
-transmitterRead cells unit offset = afterTransmitter cells unit (T.readOf (transmitterOf cells unit) offset)
 
 abbrev pub afterReceiver : List ℕ → ℕ → RD.Reading → Read × List ℕ
 afterReceiver cells unit r = (r .answer, putReceiver cells unit (r .side))
 
-abbrev pub receiverRead : List ℕ → ℕ → ℕ → Read × List ℕ
-receiverRead cells unit offset = afterReceiver cells unit (R.readOf (receiverOf cells unit) offset)
-
--- "TMMR read answers number 0": a word, always. It shows MASTER, and the transmitter's CHN OPN (reading 3); its RD SILO decides
--- whether an address is removed.
+-- "TMMR read answers number 0": a word, always
 abbrev pub afterMaster : List ℕ → ℕ → MD.Reading → Read × List ℕ
 afterMaster cells unit r = (Read.Word (r .word), putMaster cells unit (r .side))
 
+-- ---- a side's registers
+
+-- "TSDB read shows the oldest word, removing it only with RD SILO set"
+abbrev pub transmitterRead : List ℕ → ℕ → ℕ → Read × List ℕ
+transmitterRead cells unit offset =
+    pick (T.removes (transmitterOf cells unit) offset) (afterTransmitter cells unit (T.readOf (transmitterOf cells unit) offset))
+    (T.readOf (transmitterOf cells unit) offset .answer, cells)
+
+-- "RDDB alike, removing it unless RC NPR is set"
+abbrev pub receiverRead : List ℕ → ℕ → ℕ → Read × List ℕ
+receiverRead cells unit offset =
+    pick (R.removes (receiverOf cells unit) offset) (afterReceiver cells unit (R.readOf (receiverOf cells unit) offset))
+    (R.readOf (receiverOf cells unit) offset .answer, cells)
+
+-- TMMR shows MASTER, and the transmitter's CHN OPN (reading 3)
+abbrev pub sectionRead : List ℕ → ℕ → MD.Reading
+sectionRead cells unit =
+    M.readOf (masterOf cells unit) (mastershipOf (holderIn cells) unit) (transmitterOf cells unit .end .opened) (transmitterOf cells unit .modes .readSilo)
+
+-- "removing it only with RD SILO and AUT ADR set": RD SILO is the transmitter's
 abbrev pub masterRead : List ℕ → ℕ → Read × List ℕ
 masterRead cells unit =
-    afterMaster cells unit
-    (M.readOf (masterOf cells unit) (mastershipOf (holderIn cells) unit) (transmitterOf cells unit .channel .opened) (transmitterOf cells unit .modes .readSilo))
+    pick (M.removes (masterOf cells unit) (transmitterOf cells unit .modes .readSilo)) (afterMaster cells unit (sectionRead cells unit))
+    (Read.Word (sectionRead cells unit .word), cells)
+
+-- ---- a unit's registers
 
 abbrev pub unitRead : List ℕ → ℕ → ℕ → Read × List ℕ
 unitRead cells unit offset =

@@ -1,4 +1,5 @@
--- Document 01, Registers: a word or a byte written at one unit, and its reset.
+-- Document 01, Registers: a word or a byte written at one unit, and its reset. A write to a register that no write
+-- changes, and a low byte of TMMR written alone that is dropped, leave every cell.
 -- Assumes nothing.
 use mathlib.Core.Bool.{_&&_}
 use mathlib.Core.List.{List}
@@ -49,10 +50,14 @@ afterMaster cells unit w = (w .answer, putHolder (putMaster cells unit (w .side)
 -- ---- a word
 
 abbrev pub transmitterWritten : List ℕ → ℕ → ℕ → ℕ → Write × List ℕ
-transmitterWritten cells unit offset word = afterTransmitter cells unit (T.written (transmitterOf cells unit) offset word)
+transmitterWritten cells unit offset word =
+    pick (T.changes offset) (afterTransmitter cells unit (T.written (transmitterOf cells unit) offset word))
+    (T.written (transmitterOf cells unit) offset word .answer, cells)
 
 abbrev pub receiverWritten : List ℕ → ℕ → ℕ → ℕ → Write × List ℕ
-receiverWritten cells unit offset word = afterReceiver cells unit (R.written (receiverOf cells unit) offset word)
+receiverWritten cells unit offset word =
+    pick (R.changes offset) (afterReceiver cells unit (R.written (receiverOf cells unit) offset word))
+    (R.written (receiverOf cells unit) offset word .answer, cells)
 
 abbrev pub masterWritten : List ℕ → ℕ → ℕ → Write × List ℕ
 masterWritten cells unit word =
@@ -71,16 +76,22 @@ unitWritten cells unit offset word =
 -- ---- a byte
 
 abbrev pub transmitterByteWritten : List ℕ → ℕ → ℕ → ℕ → Write × List ℕ
-transmitterByteWritten cells unit offset byte = afterTransmitter cells unit (T.byteWritten (transmitterOf cells unit) offset byte)
+transmitterByteWritten cells unit offset byte =
+    pick (T.changesByte offset) (afterTransmitter cells unit (T.byteWritten (transmitterOf cells unit) offset byte))
+    (T.byteWritten (transmitterOf cells unit) offset byte .answer, cells)
 
 abbrev pub receiverByteWritten : List ℕ → ℕ → ℕ → ℕ → Write × List ℕ
-receiverByteWritten cells unit offset byte = afterReceiver cells unit (R.byteWritten (receiverOf cells unit) offset byte)
+receiverByteWritten cells unit offset byte =
+    pick (R.changesByte offset) (afterReceiver cells unit (R.byteWritten (receiverOf cells unit) offset byte))
+    (R.byteWritten (receiverOf cells unit) offset byte .answer, cells)
 
--- TMMR's low byte is an address
+-- TMMR's low byte is an address, loaded or dropped (6)
 abbrev pub masterLowWritten : List ℕ → ℕ → ℕ → Write × List ℕ
 masterLowWritten cells unit byte =
-    afterMaster cells unit
-    (M.lowByteWritten (masterOf cells unit) (mastershipOf (holderIn cells) unit) (transmitterOf cells unit .modes .readSilo) byte)
+    pick (M.takesAddress (masterOf cells unit) (transmitterOf cells unit .modes .readSilo))
+    (afterMaster cells unit
+    (M.lowByteWritten (masterOf cells unit) (mastershipOf (holderIn cells) unit) (transmitterOf cells unit .modes .readSilo) byte))
+    (Write.Dropped, cells)
 
 -- its high byte has the section's bits, and no address is loaded
 abbrev pub masterHighWritten : List ℕ → ℕ → ℕ → Write × List ℕ

@@ -2,14 +2,13 @@
 use cells::units::holder;
 use master::side::Mastership;
 ghost use mathlib.Core.Path.{_≡_};
-ghost use Prim.Native.Nat.{_+_, _≤_, _<_};
-ghost use lib.ListN.{length};
-ghost use Rattle.cells.specs.Layout.{holderIn, unitPlace};
+ghost use Rattle.cells.specs.Fitted.{Fitted};
+ghost use Rattle.cells.specs.Layout.{holderIn};
 ghost use Rattle.accesses.specs.Masters.{mastershipOf, holderAfter, released};
 
 // Seen from a unit.
 pub fn see_master(cells: &[u16], unit: usize) -> Mastership
-    requires { ⌜ (unit < 16) × (unitPlace unit + 214 ≤ length (now cells)) ⌝ }
+    requires { ⌜ Fitted (now cells) unit ⌝ }
     ensures { λ r. ⌜ r ≡ mastershipOf (holderIn (now (cells .entry))) unit ⌝ }
 {
     let number = holder(cells) as usize;
@@ -24,7 +23,7 @@ pub fn see_master(cells: &[u16], unit: usize) -> Mastership
 
 // The header's cell, as an access of the unit leaves it.
 pub fn next_holder(cells: &[u16], unit: usize, mastership: Mastership) -> u16
-    requires { ⌜ (unit < 16) × (unitPlace unit + 214 ≤ length (now cells)) ⌝ }
+    requires { ⌜ Fitted (now cells) unit ⌝ }
     ensures { λ r. ⌜ r ≡ holderAfter (holderIn (now (cells .entry))) unit mastership ⌝ }
 {
     match mastership {
@@ -36,7 +35,7 @@ pub fn next_holder(cells: &[u16], unit: usize, mastership: Mastership) -> u16
 
 // TX INIT and reset clear MASTER at the unit.
 pub fn release(cells: &[u16], unit: usize) -> u16
-    requires { ⌜ (unit < 16) × (unitPlace unit + 214 ≤ length (now cells)) ⌝ }
+    requires { ⌜ Fitted (now cells) unit ⌝ }
     ensures { λ r. ⌜ r ≡ released (holderIn (now (cells .entry))) unit ⌝ }
 {
     let number = holder(cells);

@@ -2,11 +2,13 @@
 use crate::masters::next_holder;
 use crate::masters::release;
 use crate::masters::see_master;
-use cells::sides::load_master;
-use cells::sides::load_transmitter;
-use cells::sides::store_master;
+use cells::sides::master_of;
+use cells::sides::put_master;
+use cells::sides::transmitter_of;
 use cells::units::put_holder;
 use master::registers::Written;
+use master::registers::removes;
+use master::registers::takes_address;
 use words::answers::Read;
 use words::answers::Write;
 ghost use mathlib.Core.Path.{_≡_};
@@ -20,16 +22,16 @@ ghost use Rattle.accesses.specs.Writing.{sectionReset, afterMaster, mast
 // CHN OPN and RD SILO of the unit's transmitter.
 fn is_open(cells: &[u16], unit: usize) -> bool
     requires { ⌜ Fitted (now cells) unit ⌝ }
-    ensures { λ r. ⌜ r ≡ transmitterOf (now (cells .entry)) unit .channel .opened ⌝ }
+    ensures { λ r. ⌜ r ≡ transmitterOf (now (cells .entry)) unit .end .opened ⌝ }
 {
-    load_transmitter(cells, unit).channel.opened
+    transmitter_of(cells, unit).end.opened
 }
 
 fn reads_silo(cells: &[u16], unit: usize) -> bool
     requires { ⌜ Fitted (now cells) unit ⌝ }
     ensures { λ r. ⌜ r ≡ transmitterOf (now (cells .entry)) unit .modes .readSilo ⌝ }
 {
-    load_transmitter(cells, unit).modes.readSilo
+    transmitter_of(cells, unit).modes.readSilo
 }
 
 pub fn read_section(cells: &mut [u16], unit: usize) -> Read
@@ -39,8 +41,12 @@ pub fn read_section(cells: &mut [u16], unit: usize) -> Read
     let mastership = see_master(cells, unit);
     let opened = is_open(cells, unit);
     let silo = reads_silo(cells, unit);
-    let reading = load_master(cells, unit).read(mastership, opened, silo);
-    store_master(cells, unit, reading.side);
+    let section = master_of(cells, unit);
+    let reading = section.read(mastership, opened, silo);
+    if removes(section, silo) {
+        put_master(cells, unit, reading.side);
+        return Read::Word(reading.word);
+    }
     Read::Word(reading.word)
 }
 
@@ -52,7 +58,7 @@ fn store_section(cells: &mut [u16], unit: usize, written: Written) -> Write
 {
     let mastership = written.mastership;
     let next = next_holder(cells, unit, mastership);
-    store_master(cells, unit, written.side);
+    put_master(cells, unit, written.side);
     put_holder(cells, next);
     written.answer
 }
@@ -63,7 +69,7 @@ pub fn write_section(cells: &mut [u16], unit: usize, word: u16) -> Write
 {
     let mastership = see_master(cells, unit);
     let silo = reads_silo(cells, unit);
-    let written = load_master(cells, unit).write_word(mastership, silo, word);
+    let written = master_of(cells, unit).write_word(mastership, silo, word);
     store_section(cells, unit, written)
 }
 
@@ -71,9 +77,13 @@ pub fn write_section_low(cells: &mut [u16], unit: usize, byte: u8) -> Write
     requires { ⌜ Fitted (now cells) unit ⌝ }
     ensures { λ r. ⌜ _≡_ {A = Write × List ℕ} (r, now (cells .exit)) (masterLowWritten (now (cells .entry)) unit byte) ⌝ }
 {
-    let mastership = see_master(cells, unit);
     let silo = reads_silo(cells, unit);
-    let written = load_master(cells, unit).write_low(mastership, silo, byte);
+    let section = master_of(cells, unit);
+    if !takes_address(section, silo) {
+        return Write::Dropped;
+    }
+    let mastership = see_master(cells, unit);
+    let written = section.write_low(mastership, silo, byte);
     store_section(cells, unit, written)
 }
 
@@ -82,7 +92,7 @@ pub fn write_section_high(cells: &mut [u16], unit: usize, byte: u8) -> Write
     ensures { λ r. ⌜ _≡_ {A = Write × List ℕ} (r, now (cells .exit)) (masterHighWritten (now (cells .entry)) unit byte) ⌝ }
 {
     let mastership = see_master(cells, unit);
-    let written = load_master(cells, unit).write_high(mastership, byte);
+    let written = master_of(cells, unit).write_high(mastership, byte);
     store_section(cells, unit, written)
 }
 
@@ -91,7 +101,7 @@ pub fn reset_section(cells: &mut [u16], unit: usize)
     ensures { λ _. ⌜ now (cells .exit) ≡ sectionReset (now (cells .entry)) unit ⌝ }
 {
     let next = release(cells, unit);
-    let section = load_master(cells, unit).init();
-    store_master(cells, unit, section);
+    let section = master_of(cells, unit).init();
+    put_master(cells, unit, section);
     put_holder(cells, next);
 }

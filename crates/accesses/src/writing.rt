@@ -1,4 +1,4 @@
-// A word or a byte written at one fitted unit, and its reset.
+// A word or a byte written at one fitted unit, and its reset. A write that changes nothing puts nothing back.
 use crate::offsets::RCR;
 use crate::offsets::TCR;
 use crate::offsets::TMMR;
@@ -7,10 +7,10 @@ use crate::sections::reset_section;
 use crate::sections::write_section;
 use crate::sections::write_section_high;
 use crate::sections::write_section_low;
-use cells::sides::load_receiver;
-use cells::sides::load_transmitter;
-use cells::sides::store_receiver;
-use cells::sides::store_transmitter;
+use cells::sides::put_receiver;
+use cells::sides::put_transmitter;
+use cells::sides::receiver_of;
+use cells::sides::transmitter_of;
 use transmitter_registers::registers::asks_init;
 use words::answers::Write;
 ghost use mathlib.Core.Path.{_≡_};
@@ -26,7 +26,7 @@ fn reset_transmitter(cells: &mut [u16], unit: usize) -> Write
     ensures { λ r. ⌜ _≡_ {A = Write × List ℕ} (r, now (cells .exit)) (Write.Done, transmitterReset (now (cells .entry)) unit) ⌝ }
 {
     reset_section(cells, unit);
-    store_transmitter(cells, unit, transmitter::side::start());
+    put_transmitter(cells, unit, transmitter::side::start());
     Write::Done
 }
 
@@ -35,7 +35,7 @@ pub fn reset_unit(cells: &mut [u16], unit: usize)
     ensures { λ _. ⌜ now (cells .exit) ≡ unitReset (now (cells .entry)) unit ⌝ }
 {
     reset_transmitter(cells, unit);
-    store_receiver(cells, unit, receiver::side::start());
+    put_receiver(cells, unit, receiver::side::start());
 }
 
 // ---- a word
@@ -44,9 +44,12 @@ fn write_transmitter(cells: &mut [u16], unit: usize, offset: u32, word: u16) -> 
     requires { ⌜ Fitted (now cells) unit ⌝ }
     ensures { λ r. ⌜ _≡_ {A = Write × List ℕ} (r, now (cells .exit)) (transmitterWritten (now (cells .entry)) unit offset word) ⌝ }
 {
-    let before = load_transmitter(cells, unit);
+    let before = transmitter_of(cells, unit);
     let written = transmitter_registers::registers::write(before, offset, word);
-    store_transmitter(cells, unit, written.side);
+    if transmitter_registers::registers::changes(offset) {
+        put_transmitter(cells, unit, written.side);
+        return written.answer;
+    }
     written.answer
 }
 
@@ -54,9 +57,12 @@ fn write_receiver(cells: &mut [u16], unit: usize, offset: u32, word: u16) -> Wri
     requires { ⌜ Fitted (now cells) unit ⌝ }
     ensures { λ r. ⌜ _≡_ {A = Write × List ℕ} (r, now (cells .exit)) (receiverWritten (now (cells .entry)) unit offset word) ⌝ }
 {
-    let before = load_receiver(cells, unit);
+    let before = receiver_of(cells, unit);
     let written = receiver_registers::registers::write(before, offset, word);
-    store_receiver(cells, unit, written.side);
+    if receiver_registers::registers::changes(offset) {
+        put_receiver(cells, unit, written.side);
+        return written.answer;
+    }
     written.answer
 }
 
@@ -82,9 +88,12 @@ fn write_transmitter_byte(cells: &mut [u16], unit: usize, offset: u32, byte: u8)
     requires { ⌜ Fitted (now cells) unit ⌝ }
     ensures { λ r. ⌜ _≡_ {A = Write × List ℕ} (r, now (cells .exit)) (transmitterByteWritten (now (cells .entry)) unit offset byte) ⌝ }
 {
-    let before = load_transmitter(cells, unit);
+    let before = transmitter_of(cells, unit);
     let written = transmitter_registers::registers::write_byte(before, offset, byte);
-    store_transmitter(cells, unit, written.side);
+    if transmitter_registers::registers::changes_byte(offset) {
+        put_transmitter(cells, unit, written.side);
+        return written.answer;
+    }
     written.answer
 }
 
@@ -92,9 +101,12 @@ fn write_receiver_byte(cells: &mut [u16], unit: usize, offset: u32, byte: u8) ->
     requires { ⌜ Fitted (now cells) unit ⌝ }
     ensures { λ r. ⌜ _≡_ {A = Write × List ℕ} (r, now (cells .exit)) (receiverByteWritten (now (cells .entry)) unit offset byte) ⌝ }
 {
-    let before = load_receiver(cells, unit);
+    let before = receiver_of(cells, unit);
     let written = receiver_registers::registers::write_byte(before, offset, byte);
-    store_receiver(cells, unit, written.side);
+    if receiver_registers::registers::changes_byte(offset) {
+        put_receiver(cells, unit, written.side);
+        return written.answer;
+    }
     written.answer
 }
 

@@ -12,7 +12,7 @@ use Rattle.answering.specs.declared.choice.Rule.{Rule}
 
 -- Rule 1: "None, or open with another". That there is none is seen where the receiver is looked for.
 abbrev pub openWithAnother : Receiver → ℕ → Bool
-openWithAnother r from = r .channel .opened && not (eqb (r .modes .sender) from)
+openWithAnother r from = r .end .opened && not (eqb (r .modes .sender) from)
 
 -- Rule 2: "Closed: A 10, RCV WD, no ERR, room: opens .. Else 00." Of what T sends it looks at A alone (reading 26).
 abbrev pub mayOpen : Receiver → Sent → Bool
@@ -51,7 +51,7 @@ decidedWord r = pick ((r .commands .receiveData || r .commands .receiveWord) && 
 abbrev pub decidedByCode : Receiver → Sent → Rule
 decidedByCode r sent =
     pick (eqb (sent .code) 3) (decidedCrc r false)
-    (pick (eqb (sent .code) 2) (pick (eqb (r .channel .block) 128) (decidedCrc r true) (decidedWord r)) Rule.Null)
+    (pick (eqb (sent .code) 2) (pick (eqb (r .end .block) 128) (decidedCrc r true) (decidedWord r)) Rule.Null)
 
 -- Rules 3 to 10. Rule 4: "The word before had bad parity"; rule 5: "A 00"
 abbrev pub decidedOpen : Receiver → Sent → Rule
@@ -65,4 +65,4 @@ decidedOpen r sent =
 -- with it")
 abbrev pub decided : Receiver → ℕ → Sent → Rule
 decided r from sent =
-    pick (openWithAnother r from) Rule.Other (pick (not (r .channel .opened)) (decidedClosed r sent) (decidedOpen r sent))
+    pick (openWithAnother r from) Rule.Other (pick (not (r .end .opened)) (decidedClosed r sent) (decidedOpen r sent))

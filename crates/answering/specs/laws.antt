@@ -2,4 +2,3 @@ pub mod Hears
 pub mod Keeps
 pub mod Listening
 pub mod Parts
-pub mod Within

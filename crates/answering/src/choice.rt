@@ -5,7 +5,7 @@ use receiver::side::is_data_in_ready;
 use receiver::side::is_data_out_ready;
 use words::lines::Sent;
 ghost use mathlib.Core.Path.{_≡_};
-ghost use Rattle.answering.specs.Choice.{decidedClosed, decidedCrc, decidedWord, decidedOpen, decided};
+ghost use Rattle.answering.specs.Choice.{openWithAnother, decidedClosed, decidedCrc, decidedWord, decidedOpen, decided};
 
 pub enum Rule {
     // 1. Open with another.
@@ -101,7 +101,7 @@ fn decide_open(r: Receiver, sent: Sent) -> Rule
     match code {
         3 => decide_crc(r, false),
         2 => {
-            if r.channel.block == 128 {
+            if r.end.block == 128 {
                 return decide_crc(r, true);
             }
             decide_word(r)
@@ -110,14 +110,21 @@ fn decide_open(r: Receiver, sent: Sent) -> Rule
     }
 }
 
+// Rule 1, open with another than the transmitter `from`.
+pub fn is_open_with_another(r: Receiver, from: u16) -> bool
+    ensures { λ x. ⌜ x ≡ openWithAnother r from ⌝ }
+{
+    r.end.opened & (r.modes.sender != from)
+}
+
 // The transmitter `from` has sent this to the receiver.
 pub fn decide(r: Receiver, from: u16, sent: Sent) -> Rule
     ensures { λ x. ⌜ x ≡ decided r from sent ⌝ }
 {
-    if r.channel.opened & (r.modes.sender != from) {
+    if is_open_with_another(r, from) {
         return Rule::Other;
     }
-    if !r.channel.opened {
+    if !r.end.opened {
         return decide_closed(r, sent);
     }
     decide_open(r, sent)

@@ -17,10 +17,11 @@ ghost use Rattle.answering.specs.Events.{showing, closed, parityFailed, 
 pub fn show_codes(r: Receiver, a: u16, b: u16) -> Receiver
     ensures { λ x. ⌜ x ≡ showing r a b ⌝ }
 {
-    let shown = r.shown;
     let frozen = has_error(r);
+    let mut end = r.end;
+    end.shown = end.shown.show(frozen, a, b);
     let mut next = r;
-    next.shown = shown.show(frozen, a, b);
+    next.end = end;
     next
 }
 
@@ -32,9 +33,9 @@ pub fn close(r: Receiver) -> Receiver
     next.commands.receiveData = false;
     next.commands.receiveWord = false;
     next.modes.reject = false;
-    next.channel.opened = false;
     next.channel.truncated = false;
-    next.mark = false;
+    next.end.opened = false;
+    next.end.mark = false;
     next
 }
 
@@ -70,35 +71,35 @@ pub fn succeed(r: Receiver) -> Receiver
     ensures { λ x. ⌜ x ≡ succeeded r ⌝ }
 {
     let rejectComplete = r.channel.truncated | r.outcome.rejectComplete;
+    let mut end = r.end;
+    end.shown = Codes::none();
     let mut next = r;
+    next.end = end;
     next.outcome.rejectComplete = rejectComplete;
     next.outcome.success = true;
-    next.shown = Codes::none();
     request(next)
 }
 
 // The word is in the silo, in the CRC and in the count of 128, its parity is noted, and the period's mark is cleared.
 fn keep_word(r: Receiver, sent: Sent) -> Receiver
-    requires { ⌜ r .channel .block ≤ 128 ⌝ }
+    requires { ⌜ r .end .block ≤ 128 ⌝ }
     ensures { λ x. ⌜ x ≡ wordKept r sent ⌝ }
 {
-    let silo = r.silo;
-    let before = r.channel.block;
-    let crc = crc_with_word(r.channel.crc, sent.word);
+    let mut end = r.end;
+    end.silo = end.silo.put(WORDS, sent.word);
+    end.crc = crc_with_word(end.crc, sent.word);
+    end.block = end.block + 1;
+    end.mark = false;
     let badParity = !parity_is_good(sent.word, sent.parity);
-    let block = before + 1;
     let mut next = r;
-    next.silo = silo.put(WORDS, sent.word);
+    next.end = end;
     next.channel.badParity = badParity;
-    next.channel.block = block;
-    next.channel.crc = crc;
-    next.mark = false;
     next
 }
 
 // A word stored with RCV DAT clear makes a request.
 pub fn store_word(r: Receiver, sent: Sent) -> Receiver
-    requires { ⌜ r .channel .block ≤ 128 ⌝ }
+    requires { ⌜ r .end .block ≤ 128 ⌝ }
     ensures { λ x. ⌜ x ≡ wordStored r sent ⌝ }
 {
     let next = keep_word(r, sent);
@@ -113,17 +114,17 @@ pub fn open_channel(r: Receiver, from: u16) -> Receiver
     ensures { λ x. ⌜ x ≡ opening r from ⌝ }
 {
     let channel = Channel {
-        opened: true,
         owed: false,
         good: false,
         badParity: false,
         truncated: false,
-        block: 0,
-        crc: 0,
     };
     let mut next = r;
     next.modes.sender = from;
     next.channel = channel;
+    next.end.opened = true;
+    next.end.block = 0;
+    next.end.crc = 0;
     next
 }
 
@@ -131,7 +132,7 @@ pub fn open_channel(r: Receiver, from: u16) -> Receiver
 pub fn take_crc(r: Receiver, sent: Sent) -> Receiver
     ensures { λ x. ⌜ x ≡ crcTaken r sent ⌝ }
 {
-    let good = sent.word == r.channel.crc;
+    let good = sent.word == r.end.crc;
     let mut next = r;
     next.channel.owed = true;
     next.channel.good = good;
@@ -145,8 +146,8 @@ pub fn restart(r: Receiver) -> Receiver
     let mut next = r;
     next.channel.owed = false;
     next.channel.good = false;
-    next.channel.block = 0;
-    next.channel.crc = 0;
+    next.end.block = 0;
+    next.end.crc = 0;
     next
 }
 

@@ -77,7 +77,7 @@ fn tell(rule: Rule, truncated: bool) -> Answer
 
 // The receiver as it was, and with the codes of this slice shown: a slice that is not of its channel leaves it as it was.
 fn act(was: Receiver, r: Receiver, from: u16, sent: Sent, rule: Rule) -> Receiver
-    requires { ⌜ r .channel .block ≤ 128 ⌝ }
+    requires { ⌜ r .end .block ≤ 128 ⌝ }
     ensures { λ x. ⌜ x ≡ doneBy was r from sent rule ⌝ }
 {
     match rule {
@@ -102,7 +102,7 @@ fn act(was: Receiver, r: Receiver, from: u16, sent: Sent, rule: Rule) -> Receive
 
 // The receiver that is addressed, in a slice in which the transmitter `from` has sent this.
 pub fn answer_slice(r: Receiver, from: u16, sent: Sent) -> Answered
-    requires { ⌜ r .channel .block ≤ 128 ⌝ }
+    requires { ⌜ r .end .block ≤ 128 ⌝ }
     ensures { λ x. ⌜ x ≡ answeredBy r from sent ⌝ }
 {
     let rule = decide(r, from, sent);

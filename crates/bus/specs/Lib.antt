@@ -1,3 +1,2 @@
 pub mod Masterless
 pub mod Slice
-pub mod laws

@@ -1,15 +1,15 @@
 // A slice: whose it is, whom its transmitter addresses, and what it leaves.
 use crate::masterless::pass_masterless;
+use answering::choice::is_open_with_another;
 use cells::layout::UNITS;
 use cells::search::find_receiver;
 use cells::search::find_transmitter;
-use cells::sides::load_master;
-use cells::sides::load_receiver;
-use cells::sides::load_transmitter;
-use cells::sides::store_master;
-use cells::sides::store_receiver;
-use cells::sides::store_transmitter;
-use cells::units::count;
+use cells::sides::master_of;
+use cells::sides::put_master;
+use cells::sides::put_receiver;
+use cells::sides::put_transmitter;
+use cells::sides::receiver_of;
+use cells::sides::transmitter_of;
 use cells::units::holder;
 use sending::choice::acts;
 use sending::choice::choose;
@@ -23,9 +23,8 @@ ghost use mathlib.Core.Path.{_≡_};
 ghost use mathlib.Core.List.{List};
 ghost use Prim.Native.Nat.{ℕ, _<_};
 ghost use Rattle.cells.specs.Fitted.{Fitted, transmitterOf};
-ghost use Rattle.cells.specs.Layout.{countIn};
 ghost use Rattle.cells.specs.Ranges.{inRange};
-ghost use Rattle.bus.specs.Slice.{heardBy, unheard, sliceOf, served, masterSlice, slicePassed};
+ghost use Rattle.bus.specs.Slice.{unheard, heardBy, actingSlice, sliceOf, served, masterSlice, slicePassed};
 
 // The address that the master gave, and the codes A and B.
 pub struct Given {
@@ -36,6 +35,16 @@ pub struct Given {
 pub enum Slot {
     NoMaster,
     Given(Given),
+}
+
+// Where no receiver has the address, or it is open with another.
+fn send_unheard(cells: &mut [u16], unit: usize, t: Transmitter) -> Codes
+    requires { ⌜ Fitted (now cells) unit × (t ≡ transmitterOf (now cells) unit) ⌝ }
+    ensures { λ r. ⌜ _≡_ {A = Codes × List ℕ} (r, now (cells .exit)) (unheard (now (cells .entry)) unit) ⌝ }
+{
+    let alone = send_alone(t);
+    put_transmitter(cells, unit, alone.transmitter);
+    alone.codes
 }
 
 // Between a transmitter and the receiver of the unit `other`, which may be its own.
@@ -52,20 +61,14 @@ fn exchange_with(
     requires { ⌜ (from < 32) × (t ≡ transmitterOf (now cells) unit) ⌝ }
     ensures { λ r. ⌜ _≡_ {A = Codes × List ℕ} (r, now (cells .exit)) (heardBy (now (cells .entry)) unit other from mask parity) ⌝ }
 {
-    let pair = exchange(t, load_receiver(cells, other), from, mask, parity);
-    store_transmitter(cells, unit, pair.transmitter);
-    store_receiver(cells, other, pair.receiver);
+    let r = receiver_of(cells, other);
+    if is_open_with_another(r, from) {
+        return send_unheard(cells, unit, t);
+    }
+    let pair = exchange(t, r, from, mask, parity);
+    put_transmitter(cells, unit, pair.transmitter);
+    put_receiver(cells, other, pair.receiver);
     pair.codes
-}
-
-// Where no receiver has the address.
-fn send_unheard(cells: &mut [u16], unit: usize, t: Transmitter) -> Codes
-    requires { ⌜ Fitted (now cells) unit × (t ≡ transmitterOf (now cells) unit) ⌝ }
-    ensures { λ r. ⌜ _≡_ {A = Codes × List ℕ} (r, now (cells .exit)) (unheard (now (cells .entry)) unit) ⌝ }
-{
-    let alone = send_alone(t);
-    store_transmitter(cells, unit, alone.transmitter);
-    alone.codes
 }
 
 // The slice of a transmitter that acts.
@@ -79,26 +82,26 @@ fn serve_acting(
 ) -> Codes
     requires { ⌜ inRange (now cells) ≡ true ⌝ }
     requires { ⌜ Fitted (now cells) unit × (from < 32) × (t ≡ transmitterOf (now cells) unit) ⌝ }
-    ensures { λ r. ⌜ _≡_ {A = Codes × List ℕ} (r, now (cells .exit)) (sliceOf (now (cells .entry)) unit from mask parity) ⌝ }
+    ensures { λ r. ⌜ _≡_ {A = Codes × List ℕ} (r, now (cells .exit)) (actingSlice (now (cells .entry)) unit from mask parity) ⌝ }
 {
-    let other = find_receiver(cells, count(cells), destination(t));
+    let other = find_receiver(cells, destination(t));
     if other < UNITS {
         return exchange_with(cells, unit, t, other, from, mask, parity);
     }
     send_unheard(cells, unit, t)
 }
 
-// The slice of a transmitter that was found. One that does not act leaves everything as it was, and nothing need be put back.
+// The slice of a transmitter that was found. One that does not act leaves every cell.
 fn serve_unit(cells: &mut [u16], unit: usize, from: u16, mask: u16, parity: bool) -> Codes
     requires { ⌜ inRange (now cells) ≡ true ⌝ }
-    requires { ⌜ (unit < countIn (now cells)) × Fitted (now cells) unit × (from < 32) ⌝ }
+    requires { ⌜ Fitted (now cells) unit × (from < 32) ⌝ }
     ensures { λ r. ⌜ _≡_ {A = Codes × List ℕ} (r, now (cells .exit)) (sliceOf (now (cells .entry)) unit from mask parity) ⌝ }
 {
-    let t = load_transmitter(cells, unit);
-    if !acts(choose(t)) {
-        return Codes::none();
+    let t = transmitter_of(cells, unit);
+    if acts(choose(t)) {
+        return serve_acting(cells, unit, t, from, mask, parity);
     }
-    serve_acting(cells, unit, t, from, mask, parity)
+    Codes::none()
 }
 
 // The slice of an address.
@@ -107,7 +110,7 @@ fn serve(cells: &mut [u16], address: u16, mask: u16, parity: bool) -> Given
     requires { ⌜ address < 32 ⌝ }
     ensures { λ r. ⌜ _≡_ {A = Given × List ℕ} (r, now (cells .exit)) (served (now (cells .entry)) address mask parity) ⌝ }
 {
-    let unit = find_transmitter(cells, count(cells), address);
+    let unit = find_transmitter(cells, address);
     if unit < UNITS {
         return Given {
             address,
@@ -123,11 +126,12 @@ fn serve(cells: &mut [u16], address: u16, mask: u16, parity: bool) -> Given
 // The master's next address, and its slice.
 fn serve_next(cells: &mut [u16], unit: usize, mask: u16, parity: bool) -> Given
     requires { ⌜ inRange (now cells) ≡ true ⌝ }
-    requires { ⌜ (unit < countIn (now cells)) × Fitted (now cells) unit ⌝ }
+    requires { ⌜ Fitted (now cells) unit ⌝ }
     ensures { λ r. ⌜ _≡_ {A = Given × List ℕ} (r, now (cells .exit)) (masterSlice (now (cells .entry)) unit mask parity) ⌝ }
 {
-    let next = load_master(cells, unit).next_address();
-    store_master(cells, unit, next.side);
+    let section = master_of(cells, unit);
+    let next = section.next_address();
+    put_master(cells, unit, next.side);
     serve(cells, next.address, mask, parity)
 }
 

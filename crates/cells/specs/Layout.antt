@@ -1,9 +1,11 @@
--- Where everything lies in the lent cells: a header of 2 cells, and a block of 214 for each fitted unit.
+-- Where everything lies in the lent cells: a header of 2 cells, and a block of 214 for each fitted unit. docs/STATE.md has the table.
 -- Assumes nothing.
 use mathlib.Core.List.{List, [], _∷_}
-use Prim.Native.Nat.{ℕ, _+_, _-_, _*_, _/_, _%_, _^_}
+use Prim.Native.Nat.{ℕ, _+_, _-_, _*_, _/_, _%_, _^_, min}
 use lib.ListN.{set}
+use Rattle.codec.specs.Masters.{SECTION, SEC}
 use Rattle.codec.specs.Window.{cell}
+use Rattle.laws.specs.Bits.{bits}
 
 -- ---- the header
 
@@ -38,33 +40,45 @@ receiverPlace u = unitPlace u + 76
 abbrev pub masterPlace : ℕ → ℕ
 masterPlace u = unitPlace u + 148
 
--- ---- a unit's own cells: 0 transmitter address - 1, 1 receiver address - 1, 2 and 3 the high and low 16 bits of memory length - 1
+-- ---- a unit's own cells
+
+-- transmitter address - 1
+abbrev pub SENDS-AS : ℕ
+SENDS-AS = 0
+
+-- receiver address - 1
+abbrev pub RECEIVES-AS : ℕ
+RECEIVES-AS = 1
+
+-- memory length - 1: what stands above 16 bits, and the low 16 bits
+abbrev pub MEMORY-HIGH : ℕ
+MEMORY-HIGH = 2
+
+abbrev pub MEMORY-LOW : ℕ
+MEMORY-LOW = 3
 
 abbrev pub ownCell : List ℕ → ℕ → ℕ → ℕ
 ownCell cells k u = cell cells (unitPlace u + k)
 
--- the address whose cell is k
+-- "addresses are 1 to 31": a cell above 30 reads as 31
 abbrev pub addressIn : List ℕ → ℕ → ℕ → ℕ
-addressIn cells k u = ownCell cells k u + 1
+addressIn cells k u = min 30 (ownCell cells k u) + 1
 
 abbrev pub transmitterAddress : List ℕ → ℕ → ℕ
-transmitterAddress cells u = addressIn cells 0 u
+transmitterAddress cells u = addressIn cells SENDS-AS u
 
 abbrev pub receiverAddress : List ℕ → ℕ → ℕ
-receiverAddress cells u = addressIn cells 1 u
+receiverAddress cells u = addressIn cells RECEIVES-AS u
 
--- in words
+-- "a host memory of 1 to 131,072 words": what stands above 16 bits is one bit, and more of it reads by the remainder
 abbrev pub memoryLength : List ℕ → ℕ → ℕ
-memoryLength cells u = ownCell cells 2 u * 2 ^ 16 + ownCell cells 3 u + 1
+memoryLength cells u = ownCell cells MEMORY-HIGH u % 2 * 2 ^ 16 + ownCell cells MEMORY-LOW u % 2 ^ 16 + 1
 
 -- the four cells of two addresses and a memory length
 abbrev pub encUnit : ℕ → ℕ → ℕ → List ℕ
 encUnit transmitter receiver memory = (transmitter - 1) ∷ (receiver - 1) ∷ (memory - 1) / 2 ^ 16 ∷ (memory - 1) % 2 ^ 16 ∷ []
 
--- ---- its master section's word, and SEC of it, bit 11: 0 or 1
-
-abbrev pub sectionIn : List ℕ → ℕ → ℕ
-sectionIn cells u = cell cells (masterPlace u + 1)
+-- ---- SEC of its master section: 0 or 1
 
 abbrev pub secondaryIn : List ℕ → ℕ → ℕ
-secondaryIn cells u = sectionIn cells u / 2 ^ 11 % 2
+secondaryIn cells u = bits (cell cells (masterPlace u + SECTION)) SEC 1

@@ -1,8 +1,8 @@
 pub mod FitLaws
+pub mod FittedLaws
 pub mod FrameLaws
 pub mod HolderLaws
 pub mod PutLaws
 pub mod RangeLaws
 pub mod RoomLaws
-pub mod SideLaws
-pub mod StoreLaws
+pub mod SearchLaws

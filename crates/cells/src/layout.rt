@@ -18,3 +18,12 @@ pub const TRANSMITTER: usize = 4;
 pub const RECEIVER: usize = 76;
 
 pub const MASTER: usize = 148;
+
+// A unit's own cells: transmitter address - 1, receiver address - 1, and memory length - 1, above 16 bits and the low 16.
+pub const SENDS_AS: usize = 0;
+
+pub const RECEIVES_AS: usize = 1;
+
+pub const MEMORY_HIGH: usize = 2;
+
+pub const MEMORY_LOW: usize = 3;

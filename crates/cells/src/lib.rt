@@ -1,4 +1,4 @@
-// Where the units lie in the lent cells, the ranges of each cell, a unit's sides, and the search for a unit.
+// Where the units lie in the lent cells, when a lent state is in range, a unit's sides, and the search for a unit.
 pub mod layout;
 pub mod ranges;
 pub mod search;

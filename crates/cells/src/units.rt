@@ -4,13 +4,19 @@ use crate::layout::COUNT;
 use crate::layout::HEADER;
 use crate::layout::HOLDER;
 use crate::layout::MASTER;
+use crate::layout::MEMORY_HIGH;
+use crate::layout::MEMORY_LOW;
+use codec::masters::SEC;
+use codec::masters::SECTION;
 use codec::windows::put;
+use words::bits::bits_at;
 ghost use mathlib.Core.List.{[], _∷_};
 ghost use mathlib.Core.Path.{_≡_};
 ghost use Prim.Native.Nat.{_+_, _≤_, _<_};
 ghost use lib.ListN.{length};
 ghost use Rattle.codec.specs.Window.{cell, splice};
-ghost use Rattle.cells.specs.Layout.{countIn, holderIn, putHolder, unitPlace, addressIn, memoryLength, secondaryIn, encUnit};
+ghost use Rattle.cells.specs.Fitted.{Fitted};
+ghost use Rattle.cells.specs.Layout.{countIn, holderIn, putHolder, addressIn, memoryLength, secondaryIn, encUnit};
 
 // A cell as a wide number, for sums.
 fn cell_at(cells: &[u16], i: usize) -> usize
@@ -52,29 +58,33 @@ pub fn set_header(cells: &mut [u16], count: u16)
     put(cells, 0, &w);
 }
 
-// The address in a unit's own cell k.
+// The address in a unit's own cell k: at most 31.
 pub fn address_in(cells: &[u16], k: usize, u: usize) -> usize
-    requires { ⌜ (k < 4) × (u < 16) × (unitPlace (u + 1) ≤ length (now cells)) ⌝ }
+    requires { ⌜ (k < 4) × Fitted (now cells) u ⌝ }
     ensures { λ r. ⌜ r ≡ addressIn (now (cells .entry)) k u ⌝ }
 {
-    cell_at(cells, HEADER + u * BLOCK + k) + 1
+    let last = cell_at(cells, HEADER + u * BLOCK + k);
+    if last > 30 {
+        return 31;
+    }
+    last + 1
 }
 
 // In words.
 pub fn memory_length(cells: &[u16], u: usize) -> usize
-    requires { ⌜ (u < 16) × (unitPlace (u + 1) ≤ length (now cells)) ⌝ }
+    requires { ⌜ Fitted (now cells) u ⌝ }
     ensures { λ r. ⌜ r ≡ memoryLength (now (cells .entry)) u ⌝ }
 {
     let at = HEADER + u * BLOCK;
-    cell_at(cells, at + 2) * 65536 + cell_at(cells, at + 3) + 1
+    cell_at(cells, at + MEMORY_HIGH) % 2 * 65536 + cell_at(cells, at + MEMORY_LOW) + 1
 }
 
 // SEC of a unit's master section: 0 or 1.
 pub fn secondary_in(cells: &[u16], u: usize) -> usize
-    requires { ⌜ (u < 16) × (unitPlace (u + 1) ≤ length (now cells)) ⌝ }
+    requires { ⌜ Fitted (now cells) u ⌝ }
     ensures { λ r. ⌜ r ≡ secondaryIn (now (cells .entry)) u ⌝ }
 {
-    cell_at(cells, HEADER + u * BLOCK + MASTER + 1) / 2048 % 2
+    bits_at(cells[HEADER + u * BLOCK + MASTER + SECTION], SEC, 1) as usize
 }
 
 // A unit's own cells into its block.

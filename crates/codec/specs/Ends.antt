@@ -1,10 +1,11 @@
--- What the windows of a transmitter and of a receiver have in common. Of their 72 cells: 0 the words held, 3 the low half of the
--- address / 2, 4 the byte count / 2, 5 a command word, 6 a status word, 8 to 71 the silo's cells.
+-- What the windows of a transmitter and of a receiver have in common: 72 cells, of which the first eight are the head and the others the
+-- silo's. Every pattern of the cells has a meaning (docs/STATE.md has the table): each number is read within its limits.
 -- Assumes nothing.
 use mathlib.Core.Bool.{Bool}
-use mathlib.Core.List.{List}
-use Prim.Native.Nat.{ℕ, _+_, _*_, _/_, _%_, _^_}
-use Rattle.laws.specs.Bits.{bit, on}
+use mathlib.Core.List.{List, [], _∷_, _++_}
+use Prim.Native.Nat.{ℕ, _+_, _*_, _/_, _%_, _^_, min}
+use Rattle.ends.specs.declared.End.{End}
+use Rattle.laws.specs.Bits.{bits, bitAt}
 use Rattle.silos.specs.declared.Silo.{Silo}
 use Rattle.words.specs.Address.{at, lowOf}
 use Rattle.words.specs.Count.{inBytes}
@@ -12,55 +13,104 @@ use Rattle.words.specs.declared.codes.Codes.{Codes}
 use Rattle.words.specs.declared.load.Load.{Load}
 use Rattle.codec.specs.Window.{cell, window}
 
--- the two cells of a load: bit 0 of address and count is dropped
-abbrev pub lowCell : Load → ℕ
-lowCell l = lowOf (l .address .0) / 2
+-- ---- the places of its cells
 
-abbrev pub countCell : Load → ℕ
-countCell l = l .count .0 / 2
+-- the words held
+abbrev pub HELD : ℕ
+HELD = 0
 
--- a command word of its bits: a flag b at its bit, a number n from its bit on, of 2 bits at 4 and of 5 at 8
-abbrev pub commandBits : Bool → Bool → Bool → Bool → ℕ → Bool → Bool → ℕ → Bool → Bool → Bool → ℕ
-commandBits b0 b1 b2 b3 n4 b6 b7 n8 b13 b14 b15 =
-    bit b0
-    + bit b1 * 2 ^ 1
-    + bit b2 * 2 ^ 2
-    + bit b3 * 2 ^ 3
-    + n4 * 2 ^ 4
-    + bit b6 * 2 ^ 6
-    + bit b7 * 2 ^ 7
-    + n8 * 2 ^ 8
-    + bit b13 * 2 ^ 13
-    + bit b14 * 2 ^ 14
-    + bit b15 * 2 ^ 15
+-- the words since the last CRC
+abbrev pub BLOCK : ℕ
+BLOCK = 1
 
--- a status word of its bits: a number of 2 bits at 0 and at 2, and flags
-abbrev pub statusBits : ℕ → ℕ → Bool → Bool → Bool → Bool → Bool → Bool → Bool → Bool → Bool → Bool → Bool → Bool → ℕ
-statusBits n0 n2 b4 b5 b6 b7 b8 b9 b10 b11 b12 b13 b14 b15 =
-    n0
-    + n2 * 2 ^ 2
-    + bit b4 * 2 ^ 4
-    + bit b5 * 2 ^ 5
-    + bit b6 * 2 ^ 6
-    + bit b7 * 2 ^ 7
-    + bit b8 * 2 ^ 8
-    + bit b9 * 2 ^ 9
-    + bit b10 * 2 ^ 10
-    + bit b11 * 2 ^ 11
-    + bit b12 * 2 ^ 12
-    + bit b13 * 2 ^ 13
-    + bit b14 * 2 ^ 14
-    + bit b15 * 2 ^ 15
+-- what only one side has: the destination latched at the opening, or whether the message is truncated
+abbrev pub OWN : ℕ
+OWN = 2
 
--- the silo in a window
+-- the low half of the address / 2, since its bit 0 is dropped
+abbrev pub LOW : ℕ
+LOW = 3
+
+-- the byte count / 2, likewise
+abbrev pub COUNT : ℕ
+COUNT = 4
+
+-- TCR's bits or RCR's, with two of our own
+abbrev pub CONTROL : ℕ
+CONTROL = 5
+
+-- TSR's bits or RSR's, with the channel's
+abbrev pub STATUS : ℕ
+STATUS = 6
+
+abbrev pub CRC : ℕ
+CRC = 7
+
+-- the first of the silo's 64 cells
+abbrev pub SILO : ℕ
+SILO = 8
+
+-- ---- in the control cell
+
+-- at TX INIT and RC INIT, which are write-only: whether the count is loaded
+abbrev pub LOADED : ℕ
+LOADED = 1
+
+-- at DT O RDY and DTIRDY, which are computed: the period's mark
+abbrev pub MARK : ℕ
+MARK = 3
+
+-- EA16, and EA17 above it
+abbrev pub EA16 : ℕ
+EA16 = 4
+
+-- ---- out
+
+-- a window: the values of an end, the cell of one side only, and the two cells of bits
+abbrev pub headOf : End → ℕ → ℕ → ℕ → List ℕ
+headOf end own control status =
+    end .silo .held
+    ∷ end .block
+    ∷ own
+    ∷ lowOf (end .load .address .0) / 2
+    ∷ end .load .count .0 / 2
+    ∷ control
+    ∷ status
+    ∷ end .crc
+    ∷ []
+
+abbrev pub windowOf : End → ℕ → ℕ → ℕ → List ℕ
+windowOf end own control status = headOf end own control status ++ end .silo .cells
+
+-- ---- in
+
+-- "Data silos hold 64 words": a length above 64 reads as full
 abbrev pub siloIn : List ℕ → Silo
-siloIn w = record { cells = window w 8 64; held = cell w 0 }
+siloIn w = record { cells = window w SILO 64; held = min 64 (cell w HELD) }
 
--- the load of its two cells and a command word: there bit 1 says whether it is loaded, and bits 4 and 5 are EA16 and EA17
+-- both halves are numbers of 15 bits: one of more reads by the remainder
 abbrev pub loadOf : ℕ → ℕ → ℕ → Load
-loadOf low count command =
-    record { count = inBytes (count % 2 ^ 15 * 2); loaded = on (command / 2 ^ 1 % 2); address = at (command / 2 ^ 4 % 2 ^ 2 * 2 ^ 16 + low * 2) }
+loadOf low count control =
+    record {
+      count = inBytes (count % 2 ^ 15 * 2);
+      loaded = bitAt control LOADED;
+      address = at (bits control EA16 2 * 2 ^ 16 + low % 2 ^ 15 * 2);
+    }
 
--- the codes shown by a status word: bits 0 and 1, 2 and 3
+-- RSP A and RSP B, two bits each
 abbrev pub codesOf : ℕ → Codes
-codesOf status = record { a = status % 2 ^ 2; b = status / 2 ^ 2 % 2 ^ 2 }
+codesOf status = record { a = bits status 0 2; b = bits status 2 2 }
+
+-- "128 words since the last CRC": a count above 128 reads as 128. Whether the channel is open stands at another bit for each side, and
+-- where a period's mark counts is each side's own matter.
+abbrev pub endIn : List ℕ → Bool → Bool → End
+endIn w opened mark =
+    record {
+      silo = siloIn w;
+      load = loadOf (cell w LOW) (cell w COUNT) (cell w CONTROL);
+      shown = codesOf (cell w STATUS);
+      opened = opened;
+      block = min 128 (cell w BLOCK);
+      crc = cell w CRC % 2 ^ 16;
+      mark = mark;
+    }

@@ -1,5 +1,4 @@
 pub mod Ends
-pub mod Limits
 pub mod Masters
 pub mod Receivers
 pub mod Transmitters

@@ -1,4 +1,5 @@
--- A part of a list at a place, and a list put in its place: the only ways into the lent cells and out of them.
+-- A part of a list at a place, and a list put in its place: the ways into the lent cells and out of them. One cell alone is also set: the
+-- header's, by `putHolder` (`cells`, `Layout`).
 -- Assumes nothing.
 use mathlib.Core.List.{List, _++_}
 use Prim.Native.Nat.{ℕ, _+_}

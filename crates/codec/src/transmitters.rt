@@ -1,181 +1,91 @@
-// A transmitter as the cells of its window, and back.
-use crate::ends::SIDE;
-use crate::ends::codes_of;
-use crate::ends::command_bits;
-use crate::ends::join;
-use crate::ends::load_of;
-use crate::ends::silo_in;
-use crate::ends::status_bits;
+// A transmitter as the cells of its window, and the transmitter that a window holds.
+use crate::end_cells::CONTROL;
+use crate::end_cells::MARK;
+use crate::end_cells::OWN;
+use crate::end_cells::SIDE;
+use crate::end_cells::STATUS;
+use crate::end_cells::end_in;
+use crate::end_cells::window_of;
 use crate::windows::put;
 use crate::windows::take;
+use transmitter::bits::commands_in;
+use transmitter::bits::control_bits;
+use transmitter::bits::faults_in;
+use transmitter::bits::modes_in;
+use transmitter::bits::outcome_in;
+use transmitter::bits::status_bits;
 use transmitter::side::Channel;
-use transmitter::side::Commands;
-use transmitter::side::Faults;
-use transmitter::side::Modes;
-use transmitter::side::Outcome;
 use transmitter::side::Transmitter;
+use words::bits::bit_at;
+use words::bits::tsr;
 ghost use mathlib.Core.Path.{_≡_};
 ghost use Prim.Native.Nat.{_+_, _≤_};
 ghost use lib.ListN.{length};
 ghost use Rattle.transmitter.specs.Side.{Within};
-ghost use Rattle.codec.specs.Transmitters.{commandWord, statusWord, transmitterHead, encTransmitter, commandsOf, modesOf, faultsOf, outcomeOf, channelOf, decTransmitter, transmitterAt};
+ghost use Rattle.codec.specs.Transmitters.{controlCell, statusCell, encTransmitter, channelOf, decTransmitter, transmitterAt};
 ghost use Rattle.codec.specs.Window.{splice};
 
-fn command_word(t: Transmitter) -> u16
+// ---- out
+
+fn control_cell(t: Transmitter) -> u16
     requires { ⌜ Within t ⌝ }
-    ensures { λ r. ⌜ r ≡ commandWord t ⌝ }
+    ensures { λ r. ⌜ r ≡ controlCell t ⌝ }
 {
-    let load = t.load;
+    let load = t.end.load;
     let address = load.address;
-    let extension = address.extension();
-    command_bits(
-        t.commands.startTransmission,
-        t.load.loaded,
-        t.modes.inhibitIncrement,
-        t.mark,
-        extension,
-        t.modes.interruptEnable,
-        t.modes.readSilo,
-        t.modes.destination,
-        t.commands.sendWord,
-        t.modes.memoryRequests,
-        t.modes.retryIfBusy,
-    )
+    control_bits(t, address.extension(), load.loaded, t.end.mark)
 }
 
-fn status_word(t: Transmitter) -> u16
+// The channel's marks stand at TSR's computed bits.
+fn status_cell(t: Transmitter) -> u16
     requires { ⌜ Within t ⌝ }
-    ensures { λ r. ⌜ r ≡ statusWord t ⌝ }
+    ensures { λ r. ⌜ r ≡ statusCell t ⌝ }
 {
-    status_bits(
-        t.shown.a,
-        t.shown.b,
-        t.outcome.busBusy,
-        t.outcome.softwareReject,
-        t.channel.opened,
-        t.outcome.success,
-        t.channel.ending,
-        t.faults.overrun,
-        t.faults.timeOut,
-        t.faults.masterDown,
-        t.faults.transmissionError,
-        t.faults.memoryOverflow,
-        t.faults.nonexistentLocation,
-        t.channel.awaiting,
-    )
-}
-
-// The cells before the silo's.
-fn head(t: Transmitter) -> [u16; 8]
-    requires { ⌜ Within t ⌝ }
-    ensures { λ r. ⌜ r ≡ transmitterHead t ⌝ }
-{
-    let held = t.silo.held;
-    let block = t.channel.block;
-    let destination = t.channel.destination;
-    let load = t.load;
-    let address = load.address;
-    let count = load.count.0;
-    let crc = t.channel.crc;
-    [
-        held,
-        block,
-        destination,
-        address.low() / 2,
-        count / 2,
-        command_word(t),
-        status_word(t),
-        crc,
-    ]
+    status_bits(t, t.end.opened, t.channel.ending, t.channel.awaiting)
 }
 
 pub fn encode(t: Transmitter) -> [u16; SIDE]
     requires { ⌜ Within t ⌝ }
     ensures { λ r. ⌜ r ≡ encTransmitter t ⌝ }
 {
-    let silo = t.silo;
-    let cells = silo.cells;
-    join(head(t), cells)
+    window_of(
+        t.end,
+        t.channel.destination,
+        control_cell(t),
+        status_cell(t),
+    )
 }
 
-fn commands_of(command: u16) -> Commands
-    ensures { λ r. ⌜ r ≡ commandsOf command ⌝ }
-{
-    Commands {
-        startTransmission: command % 2 == 1,
-        sendWord: command / 8192 % 2 == 1,
-    }
-}
+// ---- in
 
-fn modes_of(command: u16) -> Modes
-    ensures { λ r. ⌜ r ≡ modesOf command ⌝ }
-{
-    Modes {
-        inhibitIncrement: command / 4 % 2 == 1,
-        interruptEnable: command / 64 % 2 == 1,
-        readSilo: command / 128 % 2 == 1,
-        memoryRequests: command / 16384 % 2 == 1,
-        retryIfBusy: command / 32768 % 2 == 1,
-        destination: command / 256 % 32,
-    }
-}
-
-fn faults_of(status: u16) -> Faults
-    ensures { λ r. ⌜ r ≡ faultsOf status ⌝ }
-{
-    Faults {
-        overrun: status / 512 % 2 == 1,
-        timeOut: status / 1024 % 2 == 1,
-        masterDown: status / 2048 % 2 == 1,
-        transmissionError: status / 4096 % 2 == 1,
-        memoryOverflow: status / 8192 % 2 == 1,
-        nonexistentLocation: status / 16384 % 2 == 1,
-    }
-}
-
-fn outcome_of(status: u16) -> Outcome
-    ensures { λ r. ⌜ r ≡ outcomeOf status ⌝ }
-{
-    Outcome {
-        busBusy: status / 16 % 2 == 1,
-        softwareReject: status / 32 % 2 == 1,
-        success: status / 128 % 2 == 1,
-    }
-}
-
-fn channel_of(status: u16, destination: u16, block: u16, crc: u16) -> Channel
-    ensures { λ r. ⌜ r ≡ channelOf status destination block crc ⌝ }
+// A closed transmitter is not ending, and a verdict is awaited only with 128 words since the last CRC.
+fn channel_of(status: u16, destination: u16, opened: bool, block: u16) -> Channel
+    ensures { λ r. ⌜ r ≡ channelOf status destination opened block ⌝ }
 {
     Channel {
-        opened: status / 64 % 2 == 1,
-        ending: status / 256 % 2 == 1,
-        awaiting: status / 32768 % 2 == 1,
-        destination,
-        block,
-        crc,
+        ending: bit_at(status, tsr::DTIRDY) & opened,
+        awaiting: bit_at(status, tsr::ERR) & (block == 128),
+        destination: destination % 32,
     }
 }
 
+// The period's mark stands only where the transmitter is BUSY.
 pub fn decode(w: [u16; SIDE]) -> Transmitter
     ensures { λ r. ⌜ r ≡ decTransmitter w ⌝ }
 {
-    let block = w[1];
-    let destination = w[2];
-    let low = w[3];
-    let count = w[4];
-    let command = w[5];
-    let status = w[6];
-    let crc = w[7];
+    let control = w[CONTROL];
+    let status = w[STATUS];
+    let commands = commands_in(control);
+    let opened = bit_at(status, tsr::BUSY);
+    let mark = bit_at(control, MARK) & (commands.sendWord | opened);
+    let end = end_in(w, opened, mark);
     Transmitter {
-        silo: silo_in(w),
-        load: load_of(low, count, command),
-        shown: codes_of(status),
-        commands: commands_of(command),
-        modes: modes_of(command),
-        faults: faults_of(status),
-        outcome: outcome_of(status),
-        channel: channel_of(status, destination, block, crc),
-        mark: command / 8 % 2 == 1,
+        end,
+        commands,
+        modes: modes_in(control),
+        faults: faults_in(status),
+        outcome: outcome_in(status),
+        channel: channel_of(status, w[OWN], opened, end.block),
     }
 }
 

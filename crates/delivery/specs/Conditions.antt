@@ -29,21 +29,21 @@ pub record Conditions (x : Ends) (sendingLength receivingLength : ℕ) (shared :
   pub some : 1 ≤ length (contentOf x)
   pub most : length (contentOf x) ≤ 32768
   -- "both ends closed before"
-  pub transmitterClosed : x .transmitter .channel .opened ≡ false
-  pub receiverClosed : x .receiver .channel .opened ≡ false
+  pub transmitterClosed : x .transmitter .end .opened ≡ false
+  pub receiverClosed : x .receiver .end .opened ≡ false
   -- "TX NPR set while any are left": a load that has ended has none left, and with it TX NPR was cleared
   pub transmitterRequests : 1 ≤ leftOf x → x .transmitter .modes .memoryRequests ≡ true
   -- "ST TXM, SND WD set"
   pub startTransmission : x .transmitter .commands .startTransmission ≡ true
   pub sendWord : x .transmitter .commands .sendWord ≡ true
   -- "R's silo empty, RCV WD, RCV DAT, RC NPR set, REJ clear"
-  pub siloEmpty : isEmpty (x .receiver .silo) ≡ true
+  pub siloEmpty : isEmpty (x .receiver .end .silo) ≡ true
   pub receiveWord : x .receiver .commands .receiveWord ≡ true
   pub receiveData : x .receiver .commands .receiveData ≡ true
   pub receiverRequests : x .receiver .modes .memoryRequests ≡ true
   pub notRejecting : x .receiver .modes .reject ≡ false
   -- "RDBC good for n words or more"
-  pub countGood : length (contentOf x) ≤ wordsLeft (x .receiver .load)
+  pub countGood : length (contentOf x) ≤ wordsLeft (x .receiver .end .load)
   -- "INH ADI and RD SILO clear"
   pub transmitterIncrements : x .transmitter .modes .inhibitIncrement ≡ false
   pub receiverIncrements : x .receiver .modes .inhibitIncrement ≡ false

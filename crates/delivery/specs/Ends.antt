@@ -43,19 +43,19 @@ abbrev pub stretch : List ℕ → ℕ → ℕ → List ℕ
 stretch memory start count = take count (drop start memory)
 
 abbrev pub sourceOf : Ends → ℕ
-sourceOf x = x .transmitter .load .address .0 / 2
+sourceOf x = x .transmitter .end .load .address .0 / 2
 
 abbrev pub targetOf : Ends → ℕ
-targetOf x = x .receiver .load .address .0 / 2
+targetOf x = x .receiver .end .load .address .0 / 2
 
 abbrev pub leftOf : Ends → ℕ
-leftOf x = wordsLeft (x .transmitter .load)
+leftOf x = wordsLeft (x .transmitter .end .load)
 
 abbrev pub restOf : Ends → List ℕ
 restOf x = stretch (x .sending) (sourceOf x) (leftOf x)
 
 abbrev pub contentOf : Ends → List ℕ
-contentOf x = words (x .transmitter .silo) ++ restOf x
+contentOf x = words (x .transmitter .end .silo) ++ restOf x
 
 abbrev pub messageOf : Ends → ℕ → ℕ → ℕ → Bool → Message
 messageOf x from sendingLength receivingLength shared =

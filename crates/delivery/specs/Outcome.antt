@@ -11,8 +11,8 @@ use Rattle.delivery.specs.Written.{written}
 
 -- open at both ends, and neither reports success, rejection or error
 pub record Underway (x : Ends) : Type 0 where
-  pub opened : x .transmitter .channel .opened ≡ true
-  pub openedThere : x .receiver .channel .opened ≡ true
+  pub opened : x .transmitter .end .opened ≡ true
+  pub openedThere : x .receiver .end .opened ≡ true
   pub noSuccess : x .transmitter .outcome .success ≡ false
   pub noSuccessThere : x .receiver .outcome .success ≡ false
   pub noReject : x .transmitter .outcome .softwareReject ≡ false
@@ -23,8 +23,8 @@ pub record Underway (x : Ends) : Type 0 where
 -- Demand 3: it succeeds at both ends, and the receiving memory then holds exactly those words and is otherwise unchanged. Success is
 -- SUC TXF at both ends, with no SORE and no RECOM, and no error at either. `promise` says what the hosts see of it (`Reports`).
 pub record Delivered (m : Message) (x : Ends) : Type 0 where
-  pub closed : x .transmitter .channel .opened ≡ false
-  pub closedThere : x .receiver .channel .opened ≡ false
+  pub closed : x .transmitter .end .opened ≡ false
+  pub closedThere : x .receiver .end .opened ≡ false
   pub success : x .transmitter .outcome .success ≡ true
   pub successThere : x .receiver .outcome .success ≡ true
   pub noReject : x .transmitter .outcome .softwareReject ≡ false

@@ -8,7 +8,7 @@ use Rattle.codec.specs.Window.{splice}
 use Rattle.master.specs.Side as M
 use Rattle.receiver.specs.Side as R
 use Rattle.transmitter.specs.Side as T
-use Rattle.fitting.specs.SetUp.{numberOf, countOf}
+use Rattle.fitting.specs.SetUp.{SENDS-AS, RECEIVES-AS, SWITCH, MEMORY, numberOf, countOf}
 
 -- one unit: its own numbers, and its sides as they start
 abbrev pub fittedAs : List ℕ → ℕ → ℕ → ℕ → ℕ → ℕ → List ℕ
@@ -18,7 +18,7 @@ fittedAs cells unit transmitter receiver switch memory =
 -- the first n units of a set-up
 abbrev pub unitOf : List ℕ → List ℕ → ℕ → List ℕ
 unitOf setup cells unit =
-    fittedAs cells unit (numberOf setup unit 0) (numberOf setup unit 1) (numberOf setup unit 2) (numberOf setup unit 3)
+    fittedAs cells unit (numberOf setup unit SENDS-AS) (numberOf setup unit RECEIVES-AS) (numberOf setup unit SWITCH) (numberOf setup unit MEMORY)
 
 unfoldable pub unitsFitted : ℕ → List ℕ → List ℕ → List ℕ
 unitsFitted zero setup cells = cells

@@ -7,7 +7,20 @@ use lib.Dec.{leb, eqb}
 use lib.ListN.{length, getD}
 use Rattle.laws.specs.Pick.{pick}
 
--- a unit's number k: 0 transmitter address, 1 receiver address, 2 counter switch, 3 memory length in words
+-- a unit's four numbers: transmitter address, receiver address, counter switch, memory length in words
+abbrev pub SENDS-AS : ℕ
+SENDS-AS = 0
+
+abbrev pub RECEIVES-AS : ℕ
+RECEIVES-AS = 1
+
+abbrev pub SWITCH : ℕ
+SWITCH = 2
+
+abbrev pub MEMORY : ℕ
+MEMORY = 3
+
+-- its number k
 abbrev pub numberOf : List ℕ → ℕ → ℕ → ℕ
 numberOf setup unit k = getD setup (unit * 4 + k) 0
 
@@ -17,10 +30,10 @@ between low x high = leb low x && leb x high
 -- "Transmitter addresses are 1 to 31, ..; receivers' likewise; counter switches 2 to 31"; "a host memory of 1 to 131,072 words"
 abbrev pub unitGood : List ℕ → ℕ → Bool
 unitGood setup unit =
-    between 1 (numberOf setup unit 0) 31
-    && between 1 (numberOf setup unit 1) 31
-    && between 2 (numberOf setup unit 2) 31
-    && between 1 (numberOf setup unit 3) 131072
+    between 1 (numberOf setup unit SENDS-AS) 31
+    && between 1 (numberOf setup unit RECEIVES-AS) 31
+    && between 2 (numberOf setup unit SWITCH) 31
+    && between 1 (numberOf setup unit MEMORY) 131072
 
 -- one of the first n units has the number k
 unfoldable pub takenBy : List ℕ → ℕ → ℕ → ℕ → Bool
@@ -33,13 +46,13 @@ again setup k unit = takenBy setup k (numberOf setup unit k) unit
 
 unfoldable pub unitsGood : List ℕ → ℕ → Bool
 unitsGood setup zero = true
-unitsGood setup (suc n) = unitsGood setup n && unitGood setup n && not (again setup 0 n) && not (again setup 1 n)
+unitsGood setup (suc n) = unitsGood setup n && unitGood setup n && not (again setup SENDS-AS n) && not (again setup RECEIVES-AS n)
 
 -- how many units it names
 abbrev pub countOf : List ℕ → ℕ
 countOf setup = length setup / 4
 
--- "1 to 16 units on one bus", each with four numbers
+-- "1 to 16 units on one bus", each with four numbers; a set-up of 0, or of 17 or more, breaks that rule (reading 32)
 abbrev pub setUpGood : List ℕ → Bool
 setUpGood setup =
     pick (not (eqb (length setup % 4) 0)) false

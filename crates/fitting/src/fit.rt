@@ -1,21 +1,23 @@
 // The cells of a fit: every unit's sides in their initial state, and then the header.
+use crate::setup::MEMORY;
 use crate::setup::NUMBERS;
+use crate::setup::RECEIVES_AS;
+use crate::setup::SENDS_AS;
+use crate::setup::SWITCH;
 use crate::setup::number;
 use cells::layout::BLOCK;
 use cells::layout::HEADER;
-use cells::layout::MASTER;
-use cells::layout::RECEIVER;
-use cells::layout::TRANSMITTER;
+use cells::sides::put_master;
+use cells::sides::put_receiver;
+use cells::sides::put_transmitter;
 use cells::units::set_header;
 use cells::units::store_unit;
-use codec::masters::store_master;
-use codec::receivers::store_receiver;
-use codec::transmitters::store_transmitter;
 use master::side::Master;
 ghost use mathlib.Core.Bool.{true};
 ghost use mathlib.Core.Path.{_≡_};
-ghost use Prim.Native.Nat.{_+_, _≤_, _<_};
+ghost use Prim.Native.Nat.{_≤_, _<_};
 ghost use lib.ListN.{length};
+ghost use Rattle.cells.specs.Fitted.{Fitted};
 ghost use Rattle.cells.specs.Layout.{unitPlace};
 ghost use Rattle.fitting.specs.Fit.{fittedAs, unitsFitted, fit};
 ghost use Rattle.fitting.specs.SetUp.{countOf, setUpGood};
@@ -29,15 +31,14 @@ fn fit_unit(
     switch: u16,
     memory: u32,
 )
-    requires { ⌜ (unit < 16) × (unitPlace unit + 214 ≤ length (now cells)) ⌝ }
-    requires { ⌜ (1 ≤ transmitter) × (1 ≤ receiver) × (switch < 32) × (1 ≤ memory) × (memory ≤ 131072) ⌝ }
+    requires { ⌜ Fitted (now cells) unit ⌝ }
+    requires { ⌜ (1 ≤ transmitter) × (1 ≤ receiver) × (2 ≤ switch) × (switch < 32) × (1 ≤ memory) × (memory ≤ 131072) ⌝ }
     ensures { λ _. ⌜ now (cells .exit) ≡ fittedAs (now (cells .entry)) unit transmitter receiver switch memory ⌝ }
 {
-    let at = HEADER + unit * BLOCK;
-    store_unit(cells, at, transmitter, receiver, memory);
-    store_transmitter(cells, at + TRANSMITTER, transmitter::side::start());
-    store_receiver(cells, at + RECEIVER, receiver::side::start());
-    store_master(cells, at + MASTER, Master::initial(switch));
+    store_unit(cells, HEADER + unit * BLOCK, transmitter, receiver, memory);
+    put_transmitter(cells, unit, transmitter::side::start());
+    put_receiver(cells, unit, receiver::side::start());
+    put_master(cells, unit, Master::initial(switch));
 }
 
 fn fit_units(cells: &mut [u16], setup: &[u32])
@@ -46,10 +47,10 @@ fn fit_units(cells: &mut [u16], setup: &[u32])
     ensures { λ _. ⌜ now (cells .exit) ≡ unitsFitted (countOf (now (setup .entry))) (now (setup .entry)) (now (cells .entry)) ⌝ }
 {
     for unit in 0..setup.len() / NUMBERS {
-        let transmitter = number(setup, unit, 0) as u16;
-        let receiver = number(setup, unit, 1) as u16;
-        let switch = number(setup, unit, 2) as u16;
-        let memory = number(setup, unit, 3);
+        let transmitter = number(setup, unit, SENDS_AS) as u16;
+        let receiver = number(setup, unit, RECEIVES_AS) as u16;
+        let switch = number(setup, unit, SWITCH) as u16;
+        let memory = number(setup, unit, MEMORY);
         fit_unit(cells, unit, transmitter, receiver, switch, memory);
     }
 }

@@ -5,8 +5,16 @@ ghost use Prim.Native.Nat.{_+_, _*_, _≤_, _<_};
 ghost use lib.ListN.{length};
 ghost use Rattle.fitting.specs.SetUp.{between, numberOf, unitGood, takenBy, unitsGood, setUpGood};
 
-// How many numbers a unit has.
+// How many numbers a unit has, and each one's place among them.
 pub const NUMBERS: usize = 4;
+
+pub const SENDS_AS: usize = 0;
+
+pub const RECEIVES_AS: usize = 1;
+
+pub const SWITCH: usize = 2;
+
+pub const MEMORY: usize = 3;
 
 fn lies_between(low: u32, x: u32, high: u32) -> bool
     ensures { λ r. ⌜ r ≡ between low x high ⌝ }
@@ -26,10 +34,10 @@ fn unit_is_good(setup: &[u32], unit: usize) -> bool
     requires { ⌜ (unit < 16) × (unit * 4 + 4 ≤ length (now setup)) ⌝ }
     ensures { λ r. ⌜ r ≡ unitGood (now (setup .entry)) unit ⌝ }
 {
-    lies_between(1, number(setup, unit, 0), 31)
-        & lies_between(1, number(setup, unit, 1), 31)
-        & lies_between(2, number(setup, unit, 2), 31)
-        & lies_between(1, number(setup, unit, 3), 131072)
+    lies_between(1, number(setup, unit, SENDS_AS), 31)
+        & lies_between(1, number(setup, unit, RECEIVES_AS), 31)
+        & lies_between(2, number(setup, unit, SWITCH), 31)
+        & lies_between(1, number(setup, unit, MEMORY), 131072)
 }
 
 // Whether one of the first `count` units has the number k.
@@ -58,7 +66,10 @@ fn units_are_good(setup: &[u32], count: usize) -> bool
 {
     let mut ok = true;
     for unit in 0..count {
-        ok = ok & unit_is_good(setup, unit) & !is_again(setup, 0, unit) & !is_again(setup, 1, unit);
+        ok = ok
+            & unit_is_good(setup, unit)
+            & !is_again(setup, SENDS_AS, unit)
+            & !is_again(setup, RECEIVES_AS, unit);
     }
     ok
 }

@@ -1,6 +1,7 @@
 pub mod Fits
 pub mod Fresh
 pub mod Keeps
+pub mod Kept
 pub mod Leaves
 pub mod Masterless
 pub mod Moves
@@ -14,5 +15,4 @@ pub mod Slices
 pub mod Spared
 pub mod Started
 pub mod Stores
-pub mod Whole
 pub mod Writes

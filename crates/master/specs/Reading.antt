@@ -32,9 +32,12 @@ abbrev pub tmmrWord : Master → Mastership → Bool → Bool → ℕ
 tmmrWord m mastership opened reading =
     tmmrOf m (address (oldest (m .addresses))) (hasMaster mastership) opened (takesAddress m reading) (not (isEmpty (m .addresses)))
 
--- "removing it only with RD SILO and AUT ADR set"
+-- "removing it only with RD SILO and AUT ADR set": where one is held
+abbrev pub removes : Master → Bool → Bool
+removes m reading = reading && m .autoAddress && not (isEmpty (m .addresses))
+
 abbrev pub removed : Master → Bool → Master
-removed m reading = pick (reading && m .autoAddress) (withAddresses m (taken (m .addresses))) m
+removed m reading = pick (removes m reading) (withAddresses m (taken (m .addresses))) m
 
 -- what stood before the removal is shown (reading 9)
 abbrev pub readOf : Master → Mastership → Bool → Bool → Reading

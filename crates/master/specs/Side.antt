@@ -7,19 +7,15 @@ use Rattle.silos.specs.Silo.{Sized, noWords, isEmpty}
 use Rattle.silos.specs.declared.Silo.{Silo}
 use Rattle.master.specs.declared.side.Master.{Master}
 
--- the values each number may take: the address silo holds at most 50, addresses are 0 to 31
+-- the values it may take: the address silo holds at most 50; the counter stands between 1 and its switch, which is 2 to 31
+-- (docs/DECISIONS.md, "The counter stays between 1 and the switch"); and where AUT ADR is clear an address is held, since "An empty
+-- address silo sets AUT ADR at once."
 pub record Within (m : Master) : Type 0 where
   pub silo : Sized 50 (m .addresses)
-  pub place : m .place < 32
-  pub switch : m .switch < 32
-
--- the counter stands between 1 and the switch (docs/DECISIONS.md, "The counter stays between 1 and the switch")
-pub record Counting (m : Master) : Type 0 where
   pub least : 1 ≤ m .place
   pub most : m .place ≤ m .switch
-
--- "An empty address silo sets AUT ADR at once.": where AUT ADR is clear, an address is held
-pub record AddressHeld (m : Master) : Type 0 where
+  pub two : 2 ≤ m .switch
+  pub switch : m .switch < 32
   pub some : m .autoAddress ≡ false → isEmpty (m .addresses) ≡ false
 
 -- "Fit gives every side its initial state": the counter stands at the switch

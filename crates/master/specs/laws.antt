@@ -1,6 +1,5 @@
 pub mod Counter
 pub mod CycleLaws
-pub mod Held
 pub mod Laws
 pub mod ReadingLaws
 pub mod RingLaws

@@ -15,7 +15,7 @@ ghost use Prim.Native.Nat.{_<_};
 ghost use Rattle.silos.specs.Silo.{Sized};
 ghost use Rattle.master.specs.Side.{Within};
 ghost use Rattle.master.specs.Writing.{siloFound, refusedAt, placeFound, highWritten, takesAddress, loaded, answerOf, wordWritten, highByteWritten, lowByteWritten};
-ghost use Rattle.master.specs.Reading.{tmmrOf, tmmrWord, removed, readOf};
+ghost use Rattle.master.specs.Reading.{tmmrOf, tmmrWord, removes, removed, readOf};
 
 // What a write of TMMR is answered, and what it leaves.
 pub struct Written {
@@ -107,7 +107,7 @@ fn write_flags(m: Master, mastership: Mastership, word: u16) -> High
 }
 
 // AIP RDY.
-fn takes_address(m: Master, reading: bool) -> bool
+pub fn takes_address(m: Master, reading: bool) -> bool
     ensures { λ r. ⌜ r ≡ takesAddress m reading ⌝ }
 {
     let addresses = m.addresses;
@@ -229,11 +229,18 @@ fn tmmr_word(m: Master, mastership: Mastership, opened: bool, reading: bool) -> 
     )
 }
 
-// What a read leaves: without the oldest address, with RD SILO and AUT ADR set.
+// Whether a read removes an address: the oldest one held, with RD SILO and AUT ADR set.
+pub fn removes(m: Master, reading: bool) -> bool
+    ensures { λ r. ⌜ r ≡ removes m reading ⌝ }
+{
+    let addresses = m.addresses;
+    reading & m.autoAddress & !addresses.is_empty()
+}
+
 fn remove(m: Master, reading: bool) -> Master
     ensures { λ r. ⌜ r ≡ removed m reading ⌝ }
 {
-    if reading & m.autoAddress {
+    if removes(m, reading) {
         let addresses = m.addresses;
         let mut side = m;
         side.addresses = addresses.take();

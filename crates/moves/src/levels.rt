@@ -1,6 +1,6 @@
 // The interrupt levels of a fitted unit's sides. Nothing changes.
-use cells::sides::load_receiver;
-use cells::sides::load_transmitter;
+use cells::sides::receiver_of;
+use cells::sides::transmitter_of;
 ghost use mathlib.Core.Path.{_≡_};
 ghost use Rattle.cells.specs.Fitted.{Fitted, transmitterOf, receiverOf};
 ghost use Rattle.receiver.specs.Requests as R;
@@ -10,12 +10,12 @@ pub fn transmitter_level(cells: &[u16], unit: usize) -> bool
     requires { ⌜ Fitted (now cells) unit ⌝ }
     ensures { λ r. ⌜ r ≡ T.levelOf (transmitterOf (now (cells .entry)) unit) ⌝ }
 {
-    transmitter::requests::level(load_transmitter(cells, unit))
+    transmitter::requests::level(transmitter_of(cells, unit))
 }
 
 pub fn receiver_level(cells: &[u16], unit: usize) -> bool
     requires { ⌜ Fitted (now cells) unit ⌝ }
     ensures { λ r. ⌜ r ≡ R.levelOf (receiverOf (now (cells .entry)) unit) ⌝ }
 {
-    receiver::requests::level(load_receiver(cells, unit))
+    receiver::requests::level(receiver_of(cells, unit))
 }

@@ -7,7 +7,6 @@ use mathlib.Core.Path.{refl}
 use Prim.Native.Nat.{ℕ}
 use lib.Dec.{eqb}
 use Rattle.bus.specs.Slice.{slicePassed}
-use Rattle.codec.specs.Limits.{Words}
 use Rattle.pcl.specs.Calls.{readCall, writeCall, byteCall, resetCall, periodCall}
 use Rattle.pcl.specs.Link.{fitCall, sliceCall}
 use Rattle.pcl.specs.Numbers.{readCallNumber, writeCallNumber, doneNumber, fitNumber, sliceNumber, moveCallNumber}
@@ -16,19 +15,19 @@ use Rattle.pcl.specs.laws.Cases.{admitted-cases, fit-cases, slice-cases, move-c
 use Rattle.outcomes.specs.Unchanged.{Unchanged, BothUnchanged}
 use Rattle.outcomes.specs.laws.RefusedUnits.{passes, unit-read-refused, unit-write-refused, unit-byte-refused, sent-refused, received-refused}
 
--- the lent state is one of 16-bit words, and nothing else is asked of it
-module _ (cells : List ℕ) (words : Words cells) where
+-- nothing is asked of the lent state
+module _ (cells : List ℕ) where
   pub read-refused : (unit offset : ℕ) → Unchanged readCallNumber cells (readCall cells unit offset)
   read-refused unit offset =
-      admitted-cases cells (Unchanged readCallNumber cells) unit _ _ _ (λ h. refl) (λ h. refl) (λ ok there. unit-read-refused cells words ok unit there offset)
+      admitted-cases cells (Unchanged readCallNumber cells) unit _ _ _ (λ h. refl) (λ h. refl) (λ ok there. unit-read-refused cells unit offset)
 
   pub write-refused : (unit offset word : ℕ) → Unchanged writeCallNumber cells (writeCall cells unit offset word)
   write-refused unit offset word =
-      admitted-cases cells (Unchanged writeCallNumber cells) unit _ _ _ (λ h. refl) (λ h. refl) (λ ok there. unit-write-refused cells words ok unit there offset word)
+      admitted-cases cells (Unchanged writeCallNumber cells) unit _ _ _ (λ h. refl) (λ h. refl) (λ ok there. unit-write-refused cells unit offset word)
 
   pub byte-refused : (unit offset byte : ℕ) → Unchanged writeCallNumber cells (byteCall cells unit offset byte)
   byte-refused unit offset byte =
-      admitted-cases cells (Unchanged writeCallNumber cells) unit _ _ _ (λ h. refl) (λ h. refl) (λ ok there. unit-byte-refused cells words ok unit there offset byte)
+      admitted-cases cells (Unchanged writeCallNumber cells) unit _ _ _ (λ h. refl) (λ h. refl) (λ ok there. unit-byte-refused cells unit offset byte)
 
   pub reset-refused : (unit : ℕ) → Unchanged doneNumber cells (resetCall cells unit)
   reset-refused unit =
@@ -49,4 +48,4 @@ module _ (cells : List ℕ) (words : Words cells) where
   pub move-refused : (memory : List ℕ) (unit side : ℕ) → BothUnchanged moveCallNumber cells memory (moveCall cells memory unit side)
   move-refused memory unit side =
       move-cases cells (BothUnchanged moveCallNumber cells memory) memory unit side (λ h. (refl, refl)) (λ h. (refl, refl))
-      (λ ok there. sent-refused cells words ok unit there memory) (λ ok there. received-refused cells words ok unit there memory)
+      (λ ok there. sent-refused cells unit memory) (λ ok there. received-refused cells unit memory)

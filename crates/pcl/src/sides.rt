@@ -8,19 +8,16 @@ use moves::levels::receiver_level;
 use moves::levels::transmitter_level;
 use moves::moving::move_receiver;
 use moves::moving::move_transmitter;
-ghost use mathlib.Core.Bool.{true};
 ghost use mathlib.Core.Path.{_≡_};
 ghost use mathlib.Core.List.{List};
-ghost use Prim.Native.Nat.{ℕ, _<_};
+ghost use Prim.Native.Nat.{ℕ};
 ghost use Rattle.cells.specs.Fitted.{Fitted};
-ghost use Rattle.cells.specs.Layout.{countIn};
-ghost use Rattle.cells.specs.Ranges.{inRange};
 ghost use Rattle.pcl.specs.Contracts.{MoveOutcome, LevelOutcome};
 ghost use Rattle.pcl.specs.Sides.{fittedMove, fittedLevel};
 
 // The lent memory has to have the unit's fitted length.
 fn move_fitted(cells: &mut [u16], memory: &mut [u16], unit: usize, side: u32) -> MoveCall
-    requires { ⌜ (inRange (now cells) ≡ true) × (unit < countIn (now cells)) × Fitted (now cells) unit ⌝ }
+    requires { ⌜ Fitted (now cells) unit ⌝ }
     ensures { λ r. ⌜ _≡_ {A = MoveCall × List ℕ × List ℕ} (r, now (cells .exit), now (memory .exit)) (fittedMove (now (cells .entry)) (now (memory .entry)) unit side) ⌝ }
 {
     if memory.len() < memory_length(cells, unit) {

@@ -8,12 +8,10 @@ use native.Mathlib.Omega.{arith}
 use lib.Count.{ones}
 use lib.Dec.{lit≤}
 use lib.ListN.{replicate}
-use Rattle.cells.specs.Ranges.{inRange, unitsInRange, unitInRange}
+use Rattle.cells.specs.Ranges.{inRange}
 use Rattle.cells.specs.Search.{firstOf}
-use Rattle.codec.specs.Limits.{firstWithin}
 use Rattle.fitting.specs.Fit.{unitsFitted}
 use Rattle.fitting.specs.SetUp.{takenBy, unitsGood}
-use Rattle.promise.specs.laws.AllWords.{are-words}
 use Rattle.promise.specs.Opening.{Opening}
 use Rattle.promise.specs.Statement.{wordsSent}
 use Rattle.promise.specs.World.{World, Event, fit, write, writeByte, slice, move, hostWrite, run}
@@ -55,20 +53,19 @@ start =
     }
 
 set-up : run setting blank .cells ≡ start .cells
-unfolding unitsFitted takenBy unitsGood unitsInRange unitInRange firstWithin firstOf inRange
+unfolding unitsFitted takenBy unitsGood firstOf inRange
 set-up = refl
 
 set-up-memory : run setting blank .memory 0 ≡ start .memory 0
-unfolding unitsFitted takenBy unitsGood unitsInRange unitInRange firstWithin firstOf inRange
+unfolding unitsFitted takenBy unitsGood firstOf inRange
 set-up-memory = refl
 
 -- ---- the next slice opens a message of two words
 
 pub opening : Opening start
-unfolding unitsInRange unitInRange firstWithin firstOf inRange ones
+unfolding firstOf inRange ones
 opening =
     record {
-      words = record { word = are-words (start .cells) refl };
       answered = refl;
       acknowledged = refl;
       conditions =
@@ -104,5 +101,5 @@ opening =
     }
 
 long : wordsSent start ≡ 2
-unfolding firstOf inRange unitsInRange unitInRange firstWithin ones
+unfolding firstOf inRange ones
 long = refl

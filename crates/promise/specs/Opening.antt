@@ -7,7 +7,6 @@ use lib.Dec.{eqb}
 use Rattle.cells.specs.Fitted.{transmitterOf, receiverOf}
 use Rattle.cells.specs.Layout.{countIn, holderIn, memoryLength, transmitterAddress}
 use Rattle.cells.specs.Search.{firstReceiver, firstTransmitter}
-use Rattle.codec.specs.Limits.{Words}
 use Rattle.delivery.specs.Conditions as Delivery
 use Rattle.delivery.specs.Ends.{Ends, Message, messageOf}
 use Rattle.pcl.specs.Link.{sliceCall}
@@ -64,8 +63,6 @@ AtOpening p w =
 -- ---- w is as it stands before the opening slice
 
 pub record Opening (w : World) : Type 0 where
-  -- the lent cells are words of 16 bits
-  pub words : Words (w .cells)
   -- an undamaged slice call is answered 0, and B is 11
   pub answered : sliceNumber (undamaged w) ≡ 0
   pub acknowledged : bOf (sliceValue (undamaged w)) ≡ 3

@@ -1,4 +1,3 @@
-pub mod AllWords
 pub mod Counting
 pub mod Demand3
 pub mod Events
@@ -13,7 +12,6 @@ pub mod Opens
 pub mod OtherSlices
 pub mod Progress
 pub mod Ready
-pub mod RefusedWrites
 pub mod RegisterReads
 pub mod Reports
 pub mod Rings

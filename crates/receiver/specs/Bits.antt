@@ -33,9 +33,9 @@ controlOf r extension atInit atReady =
 -- RSR, with what stands at BUSY, at DTORDY and at ERR
 abbrev pub statusOf : Receiver → Bool → Bool → Bool → ℕ
 statusOf r atBusy atReady atError =
-    r .shown .a * 2 ^ RSR.RSP-A-0
-    + r .shown .b * 2 ^ RSR.RSP-B-0
-    + setAt RSR.CHN-OPN (r .channel .opened)
+    r .end .shown .a * 2 ^ RSR.RSP-A-0
+    + r .end .shown .b * 2 ^ RSR.RSP-B-0
+    + setAt RSR.CHN-OPN (r .end .opened)
     + setAt RSR.RECOM (r .outcome .rejectComplete)
     + setAt RSR.BUSY atBusy
     + setAt RSR.SUC-TXF (r .outcome .success)

@@ -21,77 +21,34 @@ withSender m x =
 
 -- ---- RSR, the error bits
 
+-- all of them, in the order of the record
+abbrev faultsOf : Bool → Bool → Bool → Bool → Bool → Bool → Faults
+faultsOf a b c d e f =
+    record { byteCountOverflow = a; timeOut = b; parity = c; transmissionError = d; memoryOverflow = e; nonexistentLocation = f }
+
 -- BC OFL
 abbrev pub withByteCountOverflow : Faults → Bool → Faults
-withByteCountOverflow f x =
-    record {
-      byteCountOverflow = x;
-      timeOut = f .timeOut;
-      parity = f .parity;
-      transmissionError = f .transmissionError;
-      memoryOverflow = f .memoryOverflow;
-      nonexistentLocation = f .nonexistentLocation;
-    }
+withByteCountOverflow f x = faultsOf x (f .timeOut) (f .parity) (f .transmissionError) (f .memoryOverflow) (f .nonexistentLocation)
 
 -- TIM OUT
 abbrev pub withTimeOut : Faults → Bool → Faults
-withTimeOut f x =
-    record {
-      byteCountOverflow = f .byteCountOverflow;
-      timeOut = x;
-      parity = f .parity;
-      transmissionError = f .transmissionError;
-      memoryOverflow = f .memoryOverflow;
-      nonexistentLocation = f .nonexistentLocation;
-    }
+withTimeOut f x = faultsOf (f .byteCountOverflow) x (f .parity) (f .transmissionError) (f .memoryOverflow) (f .nonexistentLocation)
 
 -- PAR
 abbrev pub withParity : Faults → Bool → Faults
-withParity f x =
-    record {
-      byteCountOverflow = f .byteCountOverflow;
-      timeOut = f .timeOut;
-      parity = x;
-      transmissionError = f .transmissionError;
-      memoryOverflow = f .memoryOverflow;
-      nonexistentLocation = f .nonexistentLocation;
-    }
+withParity f x = faultsOf (f .byteCountOverflow) (f .timeOut) x (f .transmissionError) (f .memoryOverflow) (f .nonexistentLocation)
 
 -- TXM ERR
 abbrev pub withTransmissionError : Faults → Bool → Faults
-withTransmissionError f x =
-    record {
-      byteCountOverflow = f .byteCountOverflow;
-      timeOut = f .timeOut;
-      parity = f .parity;
-      transmissionError = x;
-      memoryOverflow = f .memoryOverflow;
-      nonexistentLocation = f .nonexistentLocation;
-    }
+withTransmissionError f x = faultsOf (f .byteCountOverflow) (f .timeOut) (f .parity) x (f .memoryOverflow) (f .nonexistentLocation)
 
 -- MEM OFL
 abbrev pub withMemoryOverflow : Faults → Bool → Faults
-withMemoryOverflow f x =
-    record {
-      byteCountOverflow = f .byteCountOverflow;
-      timeOut = f .timeOut;
-      parity = f .parity;
-      transmissionError = f .transmissionError;
-      memoryOverflow = x;
-      nonexistentLocation = f .nonexistentLocation;
-    }
+withMemoryOverflow f x = faultsOf (f .byteCountOverflow) (f .timeOut) (f .parity) (f .transmissionError) x (f .nonexistentLocation)
 
 -- NXL
 abbrev pub withNonexistentLocation : Faults → Bool → Faults
-withNonexistentLocation f x =
-    record {
-      byteCountOverflow = f .byteCountOverflow;
-      timeOut = f .timeOut;
-      parity = f .parity;
-      transmissionError = f .transmissionError;
-      memoryOverflow = f .memoryOverflow;
-      nonexistentLocation = x;
-    }
+withNonexistentLocation f x = faultsOf (f .byteCountOverflow) (f .timeOut) (f .parity) (f .transmissionError) (f .memoryOverflow) x
 
 -- ---- RSR, the rest
 
@@ -105,37 +62,18 @@ withSuccess o x = record { rejectComplete = o .rejectComplete; success = x }
 
 -- ---- the channel
 
--- whether it is open
-abbrev pub withOpened : Channel → Bool → Channel
-withOpened c x =
-    record { opened = x; owed = c .owed; good = c .good; badParity = c .badParity; truncated = c .truncated; block = c .block; crc = c .crc }
-
 -- whether a CRC was taken and its verdict is owed
 abbrev pub withOwed : Channel → Bool → Channel
-withOwed c x =
-    record { opened = c .opened; owed = x; good = c .good; badParity = c .badParity; truncated = c .truncated; block = c .block; crc = c .crc }
+withOwed c x = record { owed = x; good = c .good; badParity = c .badParity; truncated = c .truncated }
 
 -- whether that verdict is good
 abbrev pub withGood : Channel → Bool → Channel
-withGood c x =
-    record { opened = c .opened; owed = c .owed; good = x; badParity = c .badParity; truncated = c .truncated; block = c .block; crc = c .crc }
+withGood c x = record { owed = c .owed; good = x; badParity = c .badParity; truncated = c .truncated }
 
 -- whether the word before had bad parity
 abbrev pub withBadParity : Channel → Bool → Channel
-withBadParity c x =
-    record { opened = c .opened; owed = c .owed; good = c .good; badParity = x; truncated = c .truncated; block = c .block; crc = c .crc }
+withBadParity c x = record { owed = c .owed; good = c .good; badParity = x; truncated = c .truncated }
 
 -- whether the message is truncated
 abbrev pub withTruncated : Channel → Bool → Channel
-withTruncated c x =
-    record { opened = c .opened; owed = c .owed; good = c .good; badParity = c .badParity; truncated = x; block = c .block; crc = c .crc }
-
--- the words since the last CRC
-abbrev pub withBlock : Channel → ℕ → Channel
-withBlock c x =
-    record { opened = c .opened; owed = c .owed; good = c .good; badParity = c .badParity; truncated = c .truncated; block = x; crc = c .crc }
-
--- and their CRC
-abbrev pub withCrc : Channel → ℕ → Channel
-withCrc c x =
-    record { opened = c .opened; owed = c .owed; good = c .good; badParity = c .badParity; truncated = c .truncated; block = c .block; crc = x }
+withTruncated c x = record { owed = c .owed; good = c .good; badParity = c .badParity; truncated = x }

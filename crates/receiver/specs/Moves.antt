@@ -36,20 +36,20 @@ overflowed r = failed r (withMemoryOverflow (r .faults) true)
 
 -- "Else alike, storing, but count 0 leaves RC NPR set": "2 added to count and, unless INH ADI, to the address"
 abbrev pub gone : Receiver → Advance → Receiver
-gone r a = withLoad (withSilo r (taken (r .silo))) (a .load)
+gone r a = withLoad (withSilo r (taken (r .end .silo))) (a .load)
 
 abbrev pub advanced : Receiver → Advance → Receiver
 advanced r a = pick (a .overflow) (overflowed (gone r a)) (gone r a)
 
 abbrev pub wordPassed : Receiver → Receiver
-wordPassed r = advanced r (wordMoved (r .load) (r .modes .inhibitIncrement))
+wordPassed r = advanced r (wordMoved (r .end .load) (r .modes .inhibitIncrement))
 
 abbrev pub doneWith : Receiver → Moved
 doneWith r = record { side = r; answer = Move.Done }
 
 -- the oldest word goes to an index of the memory
 abbrev pub wordStored : Receiver → List ℕ → ℕ → Moved × List ℕ
-wordStored r memory at = (doneWith (wordPassed r), set memory at (oldest (r .silo)))
+wordStored r memory at = (doneWith (wordPassed r), set memory at (oldest (r .end .silo)))
 
 -- to the load's address
 abbrev pub movedTo : Receiver → List ℕ → Place → Moved × List ℕ
@@ -61,4 +61,4 @@ movedTo r memory Place.Outside = (doneWith (nonexistent r), memory)
 abbrev pub moved : Receiver → List ℕ → ℕ → Moved × List ℕ
 moved r memory fitted =
     pick (not (mayMove r)) (record { side = r; answer = Move.Nothing }, memory)
-    (pick (not (r .load .loaded)) (doneWith (exceeded r), memory) (movedTo r memory (placeOf (r .load .address .0) fitted)))
+    (pick (not (r .end .load .loaded)) (doneWith (exceeded r), memory) (movedTo r memory (placeOf (r .end .load .address .0) fitted)))

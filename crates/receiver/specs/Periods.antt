@@ -10,4 +10,4 @@ use Rattle.receiver.specs.declared.side.Receiver.{Receiver}
 -- "A word accepted, or not being busy, clears it": the mark that is set on a receiver not open settles to none, whatever RCV WD is. TIM
 -- OUT does not use the mark up (reading 31), and closes nothing at once (reading 28).
 abbrev pub periodPassed : Receiver → Receiver
-periodPassed r = pick (r .mark && r .channel .opened) (failed r (withTimeOut (r .faults) true)) (settled (withMark r true))
+periodPassed r = pick (r .end .mark && r .end .opened) (failed r (withTimeOut (r .faults) true)) (settled (withMark r true))

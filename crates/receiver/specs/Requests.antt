@@ -12,7 +12,7 @@ requested r = withCommands r noCommands
 
 -- Memory moves and periods: "not being busy, clears it", the period's mark, at the end of any call that leaves R not open (reading 31)
 abbrev pub settled : Receiver → Receiver
-settled r = withMark r (r .mark && r .channel .opened)
+settled r = withMark r (r .end .mark && r .end .opened)
 
 -- an event that sets ERR: it makes a request each time, also where ERR stands (reading 11)
 abbrev pub failed : Receiver → Faults → Receiver

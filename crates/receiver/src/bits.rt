@@ -55,9 +55,9 @@ fn status_sum(r: Receiver, atBusy: bool, atReady: bool, atError: bool) -> u16
     requires { ⌜ statusOf r atBusy atReady atError < 65536 ⌝ }
     ensures { λ x. ⌜ x ≡ statusOf r atBusy atReady atError ⌝ }
 {
-    let a = r.shown.a;
-    let b = r.shown.b;
-    let opened = r.channel.opened;
+    let a = r.end.shown.a;
+    let b = r.end.shown.b;
+    let opened = r.end.opened;
     let rejectComplete = r.outcome.rejectComplete;
     let success = r.outcome.success;
     let byteCountOverflow = r.faults.byteCountOverflow;

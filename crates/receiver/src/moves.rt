@@ -20,7 +20,7 @@ pub struct Moved {
 }
 
 // Whether there is something to move.
-fn may_move(r: Receiver) -> bool
+pub fn may_move(r: Receiver) -> bool
     ensures { λ x. ⌜ x ≡ mayMove r ⌝ }
 {
     r.modes.memoryRequests & is_data_out_ready(r) & !has_error(r)
@@ -57,11 +57,12 @@ fn overflow(r: Receiver) -> Receiver
 fn remove_word(r: Receiver, advance: Advance) -> Receiver
     ensures { λ x. ⌜ x ≡ advanced r advance ⌝ }
 {
-    let silo = r.silo;
     let load = advance.load;
+    let mut end = r.end;
+    end.silo = end.silo.take();
+    end.load = load;
     let mut next = r;
-    next.silo = silo.take();
-    next.load = load;
+    next.end = end;
     if advance.overflow {
         return overflow(next);
     }
@@ -72,7 +73,7 @@ fn pass_word(r: Receiver) -> Receiver
     requires { ⌜ Within r ⌝ }
     ensures { λ x. ⌜ x ≡ wordPassed r ⌝ }
 {
-    let load = r.load;
+    let load = r.end.load;
     remove_word(r, load.word_moved(r.modes.inhibitIncrement))
 }
 
@@ -82,7 +83,7 @@ fn store_word(r: Receiver, memory: &mut [u16], at: usize) -> Moved
     requires { ⌜ at < length (now memory) ⌝ }
     ensures { λ m. ⌜ _≡_ {A = Moved × List ℕ} (m, now (memory .exit)) (wordStored r (now (memory .entry)) at) ⌝ }
 {
-    let silo = r.silo;
+    let silo = r.end.silo;
     memory[at] = silo.oldest();
     Moved {
         side: pass_word(r),
@@ -92,9 +93,9 @@ fn store_word(r: Receiver, memory: &mut [u16], at: usize) -> Moved
 
 // The word of a memory of so many words that the load's address names.
 fn find_place(r: Receiver, memory: usize) -> Place
-    ensures { λ x. ⌜ x ≡ placeOf (r .load .address .0) memory ⌝ }
+    ensures { λ x. ⌜ x ≡ placeOf (r .end .load .address .0) memory ⌝ }
 {
-    let load = r.load;
+    let load = r.end.load;
     let address = load.address;
     address.place(memory)
 }
@@ -111,7 +112,7 @@ pub fn move_word(r: Receiver, memory: &mut [u16], fitted: usize) -> Moved
             answer: Move::Nothing,
         };
     }
-    if !r.load.loaded {
+    if !r.end.load.loaded {
         return Moved {
             side: exceed(r),
             answer: Move::Done,

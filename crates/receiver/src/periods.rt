@@ -9,13 +9,13 @@ pub fn pass_period(r: Receiver) -> Receiver
     ensures { λ x. ⌜ x ≡ periodPassed r ⌝ }
 {
     // With the mark standing, TIM OUT.
-    if r.mark & r.channel.opened {
+    if r.end.mark & r.end.opened {
         let mut faults = r.faults;
         faults.timeOut = true;
         return fail(r, faults);
     }
     // On an open receiver the mark is set, and on another there is none.
     let mut next = r;
-    next.mark = true;
+    next.end.mark = true;
     settle(next)
 }

@@ -20,9 +20,9 @@ pub fn request(r: Receiver) -> Receiver
 pub fn settle(r: Receiver) -> Receiver
     ensures { λ x. ⌜ x ≡ settled r ⌝ }
 {
-    let mark = r.mark & r.channel.opened;
+    let mark = r.end.mark & r.end.opened;
     let mut next = r;
-    next.mark = mark;
+    next.end.mark = mark;
     next
 }
 

@@ -1,8 +1,6 @@
 // The record of a receiver, in small groups, and what the rules ask of it.
-use silos::Silo;
+use ends::End;
 use silos::WORDS;
-use words::codes::Codes;
-use words::load::Load;
 ghost use mathlib.Core.Path.{_≡_};
 ghost use Rattle.receiver.specs.Side.{initial, isBusy, hasError, dataInReady, dataOutReady};
 
@@ -38,28 +36,22 @@ pub struct Outcome {
     pub success: bool,
 }
 
-// The channel: whether it is open, a CRC was taken and its verdict is owed, that verdict is good, the word before had bad
-// parity, the message is truncated; the words since the last CRC, and their CRC.
+// The channel: whether a CRC was taken and its verdict is owed, that verdict is good, the word before had bad parity, the message is
+// truncated.
 pub struct Channel {
-    pub opened: bool,
     pub owed: bool,
     pub good: bool,
     pub badParity: bool,
     pub truncated: bool,
-    pub block: u16,
-    pub crc: u16,
 }
 
 pub struct Receiver {
-    pub silo: Silo,
-    pub load: Load,
-    pub shown: Codes,
+    pub end: End,
     pub commands: Commands,
     pub modes: Modes,
     pub faults: Faults,
     pub outcome: Outcome,
     pub channel: Channel,
-    pub mark: bool,
 }
 
 // What fit, RC INIT and reset give.
@@ -67,9 +59,7 @@ pub fn start() -> Receiver
     ensures { λ x. ⌜ x ≡ initial ⌝ }
 {
     Receiver {
-        silo: Silo::empty(),
-        load: Load::none(),
-        shown: Codes::none(),
+        end: End::none(),
         commands: Commands {
             receiveData: false,
             receiveWord: false,
@@ -95,15 +85,11 @@ pub fn start() -> Receiver
             success: false,
         },
         channel: Channel {
-            opened: false,
             owed: false,
             good: false,
             badParity: false,
             truncated: false,
-            block: 0,
-            crc: 0,
         },
-        mark: false,
     }
 }
 
@@ -111,7 +97,7 @@ pub fn start() -> Receiver
 pub fn is_busy(r: Receiver) -> bool
     ensures { λ x. ⌜ x ≡ isBusy r ⌝ }
 {
-    r.commands.receiveWord | r.channel.opened
+    r.commands.receiveWord | r.end.opened
 }
 
 // ERR.
@@ -130,7 +116,7 @@ pub fn has_error(r: Receiver) -> bool
 pub fn is_data_in_ready(r: Receiver) -> bool
     ensures { λ x. ⌜ x ≡ dataInReady r ⌝ }
 {
-    let silo = r.silo;
+    let silo = r.end.silo;
     silo.has_room(WORDS)
 }
 
@@ -138,6 +124,6 @@ pub fn is_data_in_ready(r: Receiver) -> bool
 pub fn is_data_out_ready(r: Receiver) -> bool
     ensures { λ x. ⌜ x ≡ dataOutReady r ⌝ }
 {
-    let silo = r.silo;
+    let silo = r.end.silo;
     !silo.is_empty()
 }

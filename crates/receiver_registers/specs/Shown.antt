@@ -9,7 +9,7 @@ use Rattle.receiver.specs.declared.side.Receiver.{Receiver}
 
 -- RC INIT is write-only and reads 0 (reading 4).
 abbrev pub controlWord : Receiver → ℕ
-controlWord r = controlOf r (extensionOf (r .load .address .0)) false (dataInReady r)
+controlWord r = controlOf r (extensionOf (r .end .load .address .0)) false (dataInReady r)
 
 abbrev pub statusWord : Receiver → ℕ
 statusWord r = statusOf r (isBusy r) (dataOutReady r) (hasError r)

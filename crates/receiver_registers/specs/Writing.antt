@@ -39,7 +39,7 @@ abbrev pub controlWritten : Receiver → ℕ → Receiver
 controlWritten r word =
     pick (initialises word) initial
     (settled
-    (withModes (withCommands (withLoad r (extensionLoaded (r .load) (bits word RCR.EA16 2))) (commandsIn word)) (modesWritten (r .modes) word)))
+    (withModes (withCommands (withLoad r (extensionLoaded (r .end .load) (bits word RCR.EA16 2))) (commandsIn word)) (modesWritten (r .modes) word)))
 
 -- ---- RSR
 
@@ -50,7 +50,7 @@ faultsWritten before word = withNonexistentLocation (faultsIn word) (before .non
 -- SUC TXF taken from clear to set clears the codes shown (reading 16)
 abbrev pub statusSet : Receiver → ℕ → Receiver
 statusSet r word =
-    withOutcome (withFaults (withShown r (codesCleared (r .shown) (not (r .outcome .success) && outcomeIn word .success))) (faultsWritten (r .faults) word))
+    withOutcome (withFaults (withShown r (codesCleared (r .end .shown) (not (r .outcome .success) && outcomeIn word .success))) (faultsWritten (r .faults) word))
     (outcomeIn word)
 
 -- "A standing bit is set again by an event, not by a host's write of it": a write makes a request where it takes ERR, SUC TXF or RECOM
@@ -70,10 +70,10 @@ statusWritten r word = requestRaised r (statusSet r word)
 -- ---- RDBC and RDBA: bit 0 reads back 0 (reading 6)
 
 abbrev pub countWritten : Receiver → ℕ → Receiver
-countWritten r word = withLoad r (countLoaded (r .load) word)
+countWritten r word = withLoad r (countLoaded (r .end .load) word)
 
 abbrev pub addressWritten : Receiver → ℕ → Receiver
-addressWritten r word = withLoad r (lowLoaded (r .load) word)
+addressWritten r word = withLoad r (lowLoaded (r .end .load) word)
 
 -- ---- all registers
 
@@ -90,9 +90,17 @@ written r offset word =
     (pick (eqb offset 20 || eqb offset 26) (done r)
     (record { side = r; answer = Write.NoRegister })))))
 
+-- the registers that a write changes: RCR, RSR, RDBC and RDBA
+abbrev pub changes : ℕ → Bool
+changes offset = eqb offset 16 || eqb offset 18 || eqb offset 22 || eqb offset 24
+
 -- "byte write to TSDB or RDDB" is 3 (reading 8); any other byte write is the write of its register's word with that half changed, which
 -- marks RDBC loaded (reading 6)
 abbrev pub byteWritten : Receiver → ℕ → ℕ → Written
 byteWritten r offset byte =
     pick (eqb (evenBelow offset) 20) (record { side = r; answer = Write.ByteRefused })
     (written r (evenBelow offset) (withHalf (readWord (showOf r (evenBelow offset))) offset byte))
+
+-- and those that a byte written changes: the same
+abbrev pub changesByte : ℕ → Bool
+changesByte offset = changes (evenBelow offset)

@@ -15,8 +15,8 @@ use words::halves::register_offset;
 use words::halves::with_half;
 ghost use mathlib.Core.Path.{_≡_};
 ghost use Rattle.receiver.specs.Side.{Within};
-ghost use Rattle.receiver_registers.specs.Reading.{dataRead, showOf, readOf};
-ghost use Rattle.receiver_registers.specs.Writing.{initialises, written, byteWritten};
+ghost use Rattle.receiver_registers.specs.Reading.{dataRead, showOf, readOf, removes};
+ghost use Rattle.receiver_registers.specs.Writing.{initialises, written, byteWritten, changes, changesByte};
 
 pub struct Reading {
     pub side: Receiver,
@@ -34,7 +34,7 @@ pub struct Written {
 fn read_data(r: Receiver) -> Reading
     ensures { λ x. ⌜ x ≡ dataRead r ⌝ }
 {
-    let silo = r.silo;
+    let silo = r.end.silo;
     if silo.is_empty() {
         return Reading {
             side: r,
@@ -45,8 +45,10 @@ fn read_data(r: Receiver) -> Reading
     if r.modes.memoryRequests {
         return Reading { side: r, answer };
     }
+    let mut end = r.end;
+    end.silo = silo.take();
     let mut next = r;
-    next.silo = silo.take();
+    next.end = end;
     Reading { side: next, answer }
 }
 
@@ -55,7 +57,7 @@ fn show(r: Receiver, offset: u32) -> Read
     requires { ⌜ Within r ⌝ }
     ensures { λ x. ⌜ x ≡ showOf r offset ⌝ }
 {
-    let load = r.load;
+    let load = r.end.load;
     let count = load.count;
     let address = load.address;
     match offset {
@@ -63,7 +65,7 @@ fn show(r: Receiver, offset: u32) -> Read
         18 => Read::Word(status_word(r)),
         22 => Read::Word(count.0),
         24 => Read::Word(address.low()),
-        26 => Read::Word(r.channel.crc),
+        26 => Read::Word(r.end.crc),
         _ => Read::NoRegister,
     }
 }
@@ -79,6 +81,14 @@ pub fn read(r: Receiver, offset: u32) -> Reading
         side: r,
         answer: show(r, offset),
     }
+}
+
+// Whether a read removes a word.
+pub fn removes(r: Receiver, offset: u32) -> bool
+    ensures { λ x. ⌜ x ≡ removes r offset ⌝ }
+{
+    let silo = r.end.silo;
+    (offset == 20) & !r.modes.memoryRequests & !silo.is_empty()
 }
 
 // ---- writing
@@ -122,6 +132,13 @@ pub fn write(r: Receiver, offset: u32, word: u16) -> Written
     }
 }
 
+// Whether a write changes the register.
+pub fn changes(offset: u32) -> bool
+    ensures { λ x. ⌜ x ≡ changes offset ⌝ }
+{
+    (offset == 16) | (offset == 18) | (offset == 22) | (offset == 24)
+}
+
 // A byte is written as its register's word with that half changed; a byte of RDDB is refused.
 pub fn write_byte(r: Receiver, offset: u32, byte: u8) -> Written
     requires { ⌜ Within r ⌝ }
@@ -136,4 +153,11 @@ pub fn write_byte(r: Receiver, offset: u32, byte: u8) -> Written
     }
     let before = word_read(show(r, register));
     write(r, register, with_half(before, offset, byte))
+}
+
+// Whether a byte written changes its register.
+pub fn changes_byte(offset: u32) -> bool
+    ensures { λ x. ⌜ x ≡ changesByte offset ⌝ }
+{
+    changes(register_offset(offset))
 }

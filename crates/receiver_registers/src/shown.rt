@@ -15,7 +15,7 @@ pub fn control_word(r: Receiver) -> u16
     requires { ⌜ Within r ⌝ }
     ensures { λ x. ⌜ x ≡ controlWord r ⌝ }
 {
-    let load = r.load;
+    let load = r.end.load;
     let address = load.address;
     control_bits(r, address.extension(), false, is_data_in_ready(r))
 }

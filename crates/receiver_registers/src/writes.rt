@@ -35,10 +35,11 @@ pub fn write_control(r: Receiver, word: u16) -> Receiver
     if asks_init(word) {
         return start();
     }
-    let load = r.load;
     let modes = r.modes;
+    let mut end = r.end;
+    end.load = end.load.with_extension(bits_at(word, rcr::EA16, 2));
     let mut next = r;
-    next.load = load.with_extension(bits_at(word, rcr::EA16, 2));
+    next.end = end;
     next.commands = commands_in(word);
     next.modes = modes_written(modes, word);
     settle(next)
@@ -59,9 +60,10 @@ fn set_status(r: Receiver, word: u16) -> Receiver
 {
     let faults = r.faults;
     let outcome = outcome_in(word);
-    let shown = r.shown;
+    let mut end = r.end;
+    end.shown = end.shown.clear(!r.outcome.success & outcome.success);
     let mut next = r;
-    next.shown = shown.clear(!r.outcome.success & outcome.success);
+    next.end = end;
     next.faults = faults_written(faults, word);
     next.outcome = outcome;
     next
@@ -98,9 +100,10 @@ pub fn write_status(r: Receiver, word: u16) -> Receiver
 pub fn write_count(r: Receiver, word: u16) -> Receiver
     ensures { λ x. ⌜ x ≡ countWritten r word ⌝ }
 {
-    let load = r.load;
+    let mut end = r.end;
+    end.load = end.load.with_count(word);
     let mut next = r;
-    next.load = load.with_count(word);
+    next.end = end;
     next
 }
 
@@ -109,8 +112,9 @@ pub fn write_address(r: Receiver, word: u16) -> Receiver
     requires { ⌜ Within r ⌝ }
     ensures { λ x. ⌜ x ≡ addressWritten r word ⌝ }
 {
-    let load = r.load;
+    let mut end = r.end;
+    end.load = end.load.with_low(word);
     let mut next = r;
-    next.load = load.with_low(word);
+    next.end = end;
     next
 }

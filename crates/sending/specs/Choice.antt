@@ -15,7 +15,7 @@ use Rattle.sending.specs.declared.choice.Choice.{Choice}
 -- "T acts if its channel is open, or if it has SND WD, a word, a nonzero destination and no ERR; else idle." The destination is that of
 -- the moment (reading 29).
 abbrev pub mayOpen : Transmitter → Bool
-mayOpen t = t .commands .sendWord && not (isEmpty (t .silo)) && not (eqb (t .modes .destination) 0) && not (hasError t)
+mayOpen t = t .commands .sendWord && not (isEmpty (t .end .silo)) && not (eqb (t .modes .destination) 0) && not (hasError t)
 
 -- "ST TXM or SND WD set"
 abbrev pub wantsOn : Transmitter → Bool
@@ -23,7 +23,7 @@ wantsOn t = t .commands .startTransmission || t .commands .sendWord
 
 -- "ST TXM set, no bytes left, silo empty"
 abbrev pub allSent : Transmitter → Bool
-allSent t = t .commands .startTransmission && eqb (wordsLeft (t .load)) 0 && isEmpty (t .silo)
+allSent t = t .commands .startTransmission && eqb (wordsLeft (t .end .load)) 0 && isEmpty (t .end .silo)
 
 -- "Open: ERR, 00 and T closes;
 --  ending, 11 with CRC;
@@ -39,13 +39,13 @@ chosenOpen t =
     (pick (t .channel .ending) Choice.LastCrc
     (pick (t .channel .awaiting && wantsOn t) Choice.DueCrc
     (pick (allSent t) Choice.LastCrc
-    (pick (eqb (t .channel .block) 128 && wantsOn t) Choice.DueCrc
-    (pick (wantsOn t && not (isEmpty (t .silo))) Choice.Word
+    (pick (eqb (t .end .block) 128 && wantsOn t) Choice.DueCrc
+    (pick (wantsOn t && not (isEmpty (t .end .silo))) Choice.Word
     Choice.Null)))))
 
 -- "not open, 10 with a word"
 abbrev pub chosen : Transmitter → Choice
-chosen t = pick (t .channel .opened) (chosenOpen t) (pick (mayOpen t) Choice.Opening Choice.Idle)
+chosen t = pick (t .end .opened) (chosenOpen t) (pick (mayOpen t) Choice.Opening Choice.Idle)
 
 -- whether T acts
 abbrev pub actsOn : Choice → Bool
@@ -59,7 +59,7 @@ actsOn Choice.Null = true
 
 -- "The destination is latched at opening."; of a closed T it is that of the moment (reading 29)
 abbrev pub destinationOf : Transmitter → ℕ
-destinationOf t = pick (t .channel .opened) (t .channel .destination) (t .modes .destination)
+destinationOf t = pick (t .end .opened) (t .channel .destination) (t .modes .destination)
 
 -- the code A of each: 00 off line or error, 01 null, 10 word or CRC, 11 last CRC
 abbrev pub codeOf : Choice → ℕ
@@ -74,11 +74,11 @@ codeOf Choice.Null = 1
 -- "with a word", "with CRC"
 abbrev pub wordOf : Transmitter → Choice → ℕ
 wordOf t Choice.Idle = 0
-wordOf t Choice.Opening = oldest (t .silo)
+wordOf t Choice.Opening = oldest (t .end .silo)
 wordOf t Choice.Stopped = 0
-wordOf t Choice.LastCrc = t .channel .crc
-wordOf t Choice.DueCrc = t .channel .crc
-wordOf t Choice.Word = oldest (t .silo)
+wordOf t Choice.LastCrc = t .end .crc
+wordOf t Choice.DueCrc = t .end .crc
+wordOf t Choice.Word = oldest (t .end .silo)
 wordOf t Choice.Null = 0
 
 abbrev pub sentBy : Transmitter → Choice → Sent

@@ -1,21 +1,21 @@
 -- Document 01, One slice: what can happen to T in its slice.
 -- Assumes nothing.
 use mathlib.Core.Bool.{true, false}
-use Prim.Native.Nat.{ℕ, _+_}
+use Prim.Native.Nat.{ℕ}
+use Rattle.ends.specs.Ends as E
 use Rattle.laws.specs.Pick.{pick}
 use Rattle.silos.specs.Silo.{oldest, taken}
-use Rattle.transmitter.specs.Fields.{withTransmissionError, withBusBusy, withSoftwareReject, withSuccess, withOpened, withEnding, withAwaiting, withBlock, withCrc}
-use Rattle.transmitter.specs.Groups.{withSilo, withShown, withFaults, withOutcome, withChannel, withMark}
+use Rattle.transmitter.specs.Fields.{withTransmissionError, withBusBusy, withSoftwareReject, withSuccess, withEnding, withAwaiting}
+use Rattle.transmitter.specs.Groups.{withEnd, withShown, withFaults, withOutcome, withChannel}
 use Rattle.transmitter.specs.Requests.{requested}
 use Rattle.transmitter.specs.declared.side.Channel.{Channel}
 use Rattle.transmitter.specs.declared.side.Transmitter.{Transmitter}
 use Rattle.words.specs.Codes.{noCodes}
-use Rattle.words.specs.Crc.{crcWord}
 
 -- T closes; "T is ending until closed". Nothing else changes: neither ST TXM nor SND WD, no silo, no load, no CRC (reading 27;
 -- docs/DECISIONS.md, "What closing leaves in T").
 abbrev pub closed : Transmitter → Transmitter
-closed t = withChannel t (withEnding (withOpened (t .channel) false) false)
+closed t = withChannel (withEnd t (E.withOpened (t .end) false)) (withEnding (t .channel) false)
 
 -- SUC TXF, with its request, also where it stands (reading 11); TSR bits 0 to 3 are "cleared by SUC TXF" (reading 16)
 abbrev pub succeeded : Transmitter → Transmitter
@@ -38,15 +38,11 @@ metBusy t = pick (t .modes .retryIfBusy) (busBusy t) (requested (busBusy t))
 
 -- "both counts restart", and the CRC; no verdict is awaited (reading 24)
 abbrev pub restarted : Transmitter → Transmitter
-restarted t = withChannel t (withCrc (withBlock (withAwaiting (t .channel) false) 0) 0)
+restarted t = withChannel (withEnd t (E.restarted (t .end))) (withAwaiting (t .channel) false)
 
--- "11 to a word removes it"; it is counted, and in the CRC, the opening word too (reading 23); "A word accepted .. clears" the period's
--- mark
-abbrev withWord : Channel → ℕ → Channel
-withWord c word = withCrc (withBlock c (c .block + 1)) (crcWord (c .crc) word)
-
+-- "11 to a word removes it"; it is counted
 abbrev pub counted : Transmitter → Transmitter
-counted t = withMark (withChannel (withSilo t (taken (t .silo))) (withWord (t .channel) (oldest (t .silo)))) false
+counted t = withEnd t (E.counted (E.withSilo (t .end) (taken (t .end .silo))) (oldest (t .end .silo)))
 
 -- "and, if ST TXM is clear, sets SUC TXF" (docs/DECISIONS.md, "SUC TXF by a single word clears the codes too")
 abbrev pub wordAccepted : Transmitter → Transmitter
@@ -55,7 +51,7 @@ wordAccepted t = pick (t .commands .startTransmission) (counted t) (succeeded (c
 -- "opens a closed T"; "The destination is latched at opening" (reading 29); "Opening clears TBS BSY"; "At opening each end starts CRC,
 -- count of 128 and verdict .. afresh"
 abbrev openTo : ℕ → Channel
-openTo destination = record { opened = true; ending = false; awaiting = false; destination = destination; block = 0; crc = 0 }
+openTo destination = record { ending = false; awaiting = false; destination = destination }
 
 abbrev pub opening : Transmitter → Transmitter
-opening t = withOutcome (withChannel t (openTo (t .modes .destination))) (withBusBusy (t .outcome) false)
+opening t = withOutcome (withChannel (withEnd t (E.opening (t .end))) (openTo (t .modes .destination))) (withBusBusy (t .outcome) false)

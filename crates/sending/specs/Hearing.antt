@@ -33,7 +33,7 @@ afterSending t Choice.Null = t
 
 -- "TSR bits 0 to 3 show the last own slice" in which T acts (reading 14), "are frozen by an error" that stood before it (reading 15)
 abbrev pub showing : Transmitter → ℕ → ℕ → Transmitter
-showing t a b = withShown t (codesShown (t .shown) (hasError t) a b)
+showing t a b = withShown t (codesShown (t .end .shown) (hasError t) a b)
 
 -- ---- an open T
 

@@ -1,3 +1,2 @@
 pub mod Keeps
 pub mod Talking
-pub mod Within

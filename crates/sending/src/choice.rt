@@ -27,7 +27,7 @@ pub enum Choice {
 fn may_open(t: Transmitter) -> bool
     ensures { λ r. ⌜ r ≡ mayOpen t ⌝ }
 {
-    let silo = t.silo;
+    let silo = t.end.silo;
     t.commands.sendWord & !silo.is_empty() & (t.modes.destination != 0) & !has_error(t)
 }
 
@@ -35,8 +35,8 @@ fn may_open(t: Transmitter) -> bool
 fn all_sent(t: Transmitter) -> bool
     ensures { λ r. ⌜ r ≡ allSent t ⌝ }
 {
-    let silo = t.silo;
-    let load = t.load;
+    let silo = t.end.silo;
+    let load = t.end.load;
     t.commands.startTransmission & (load.left().0 == 0) & silo.is_empty()
 }
 
@@ -44,7 +44,7 @@ fn choose_open(t: Transmitter) -> Choice
     ensures { λ r. ⌜ r ≡ chosenOpen t ⌝ }
 {
     let wants = t.commands.startTransmission | t.commands.sendWord;
-    let full = t.channel.block == 128;
+    let full = t.end.block == 128;
     if has_error(t) {
         return Choice::Stopped;
     }
@@ -60,7 +60,7 @@ fn choose_open(t: Transmitter) -> Choice
     if full & wants {
         return Choice::DueCrc;
     }
-    let silo = t.silo;
+    let silo = t.end.silo;
     if wants & !silo.is_empty() {
         return Choice::Word;
     }
@@ -70,7 +70,7 @@ fn choose_open(t: Transmitter) -> Choice
 pub fn choose(t: Transmitter) -> Choice
     ensures { λ r. ⌜ r ≡ chosen t ⌝ }
 {
-    if t.channel.opened {
+    if t.end.opened {
         return choose_open(t);
     }
     if may_open(t) {
@@ -98,7 +98,7 @@ pub fn acts(choice: Choice) -> bool
 pub fn destination(t: Transmitter) -> u16
     ensures { λ r. ⌜ r ≡ destinationOf t ⌝ }
 {
-    if t.channel.opened {
+    if t.end.opened {
         return t.channel.destination;
     }
     t.modes.destination
@@ -123,8 +123,8 @@ pub fn code(choice: Choice) -> u16
 fn word(t: Transmitter, choice: Choice) -> u16
     ensures { λ r. ⌜ r ≡ wordOf t choice ⌝ }
 {
-    let silo = t.silo;
-    let crc = t.channel.crc;
+    let silo = t.end.silo;
+    let crc = t.end.crc;
     match choice {
         Choice::Idle => 0,
         Choice::Opening => silo.oldest(),

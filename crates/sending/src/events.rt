@@ -12,7 +12,7 @@ pub fn close(t: Transmitter) -> Transmitter
     ensures { λ r. ⌜ r ≡ closed t ⌝ }
 {
     let mut next = t;
-    next.channel.opened = false;
+    next.end.opened = false;
     next.channel.ending = false;
     next
 }
@@ -21,9 +21,11 @@ pub fn close(t: Transmitter) -> Transmitter
 pub fn succeed(t: Transmitter) -> Transmitter
     ensures { λ r. ⌜ r ≡ succeeded t ⌝ }
 {
+    let mut end = t.end;
+    end.shown = Codes::none();
     let mut next = t;
+    next.end = end;
     next.outcome.success = true;
-    next.shown = Codes::none();
     request(next)
 }
 
@@ -63,30 +65,29 @@ pub fn restart(t: Transmitter) -> Transmitter
 {
     let mut next = t;
     next.channel.awaiting = false;
-    next.channel.block = 0;
-    next.channel.crc = 0;
+    next.end.block = 0;
+    next.end.crc = 0;
     next
 }
 
 // The oldest word is in the CRC and in the count of 128, and leaves the silo; the period's mark is cleared.
 fn count_word(t: Transmitter) -> Transmitter
-    requires { ⌜ t .channel .block ≤ 128 ⌝ }
+    requires { ⌜ t .end .block ≤ 128 ⌝ }
     ensures { λ r. ⌜ r ≡ counted t ⌝ }
 {
-    let silo = t.silo;
-    let crc = crc_with_word(t.channel.crc, silo.oldest());
-    let block = t.channel.block + 1;
+    let mut end = t.end;
+    end.crc = crc_with_word(end.crc, end.silo.oldest());
+    end.silo = end.silo.take();
+    end.block = end.block + 1;
+    end.mark = false;
     let mut next = t;
-    next.silo = silo.take();
-    next.channel.block = block;
-    next.channel.crc = crc;
-    next.mark = false;
+    next.end = end;
     next
 }
 
 // 11 to a word: if ST TXM is clear, SUC TXF.
 pub fn accept_word(t: Transmitter) -> Transmitter
-    requires { ⌜ t .channel .block ≤ 128 ⌝ }
+    requires { ⌜ t .end .block ≤ 128 ⌝ }
     ensures { λ r. ⌜ r ≡ wordAccepted t ⌝ }
 {
     let next = count_word(t);
@@ -103,7 +104,7 @@ pub fn open_channel(t: Transmitter) -> Transmitter
     let destination = t.modes.destination;
     let mut next = restart(t);
     next.outcome.busBusy = false;
-    next.channel.opened = true;
+    next.end.opened = true;
     next.channel.ending = false;
     next.channel.destination = destination;
     next

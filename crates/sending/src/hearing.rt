@@ -47,9 +47,10 @@ fn mark_sent(t: Transmitter, choice: Choice) -> Transmitter
 fn show_codes(t: Transmitter, a: u16, b: u16) -> Transmitter
     ensures { λ r. ⌜ r ≡ showing t a b ⌝ }
 {
-    let shown = t.shown;
+    let mut end = t.end;
+    end.shown = end.shown.show(has_error(t), a, b);
     let mut next = t;
-    next.shown = shown.show(has_error(t), a, b);
+    next.end = end;
     next
 }
 
@@ -65,7 +66,7 @@ fn finish(t: Transmitter, truncated: bool) -> Transmitter
 
 // 11 to a word; where that was the receiver's verdict on a due CRC, both counts have restarted.
 fn hear_word(t: Transmitter, restarts: bool) -> Transmitter
-    requires { ⌜ t .channel .block ≤ 128 ⌝ }
+    requires { ⌜ t .end .block ≤ 128 ⌝ }
     ensures { λ r. ⌜ r ≡ wordHeard t restarts ⌝ }
 {
     if restarts {
@@ -76,7 +77,7 @@ fn hear_word(t: Transmitter, restarts: bool) -> Transmitter
 
 // 11 where the chart says stay.
 fn hear_acknowledge(t: Transmitter, choice: Choice, restarts: bool) -> Transmitter
-    requires { ⌜ t .channel .block ≤ 128 ⌝ }
+    requires { ⌜ t .end .block ≤ 128 ⌝ }
     ensures { λ r. ⌜ r ≡ acknowledged t choice restarts ⌝ }
 {
     match choice {
@@ -101,7 +102,7 @@ fn end(t: Transmitter) -> Transmitter
 
 // What the chart's entry says. Where it says stay, 11 is an acknowledgement.
 fn follow(t: Transmitter, choice: Choice, answer: Answer, entry: u16) -> Transmitter
-    requires { ⌜ t .channel .block ≤ 128 ⌝ }
+    requires { ⌜ t .end .block ≤ 128 ⌝ }
     ensures { λ r. ⌜ r ≡ followed t choice answer entry ⌝ }
 {
     if entry == CLOSE {
@@ -121,7 +122,7 @@ fn follow(t: Transmitter, choice: Choice, answer: Answer, entry: u16) -> Transmi
 
 // An open transmitter follows the chart. The receiver's rules 6 and 7 come over it.
 fn hear_open(t: Transmitter, choice: Choice, answer: Answer) -> Transmitter
-    requires { ⌜ (t .channel .block ≤ 128) × (answer .code < 4) ⌝ }
+    requires { ⌜ (t .end .block ≤ 128) × (answer .code < 4) ⌝ }
     ensures { λ r. ⌜ r ≡ heardOpen t choice answer ⌝ }
 {
     if answer.rejects {
@@ -147,7 +148,7 @@ fn hear_closed(t: Transmitter, b: u16) -> Transmitter
 }
 
 fn hear_acting(t: Transmitter, choice: Choice, answer: Answer) -> Transmitter
-    requires { ⌜ (t .channel .block ≤ 128) × (answer .code < 4) ⌝ }
+    requires { ⌜ (t .end .block ≤ 128) × (answer .code < 4) ⌝ }
     ensures { λ r. ⌜ r ≡ heardActing t choice answer ⌝ }
 {
     match choice {
@@ -163,7 +164,7 @@ fn hear_acting(t: Transmitter, choice: Choice, answer: Answer) -> Transmitter
 
 // A transmitter that acted, and was answered.
 pub fn hear(t: Transmitter, choice: Choice, answer: Answer) -> Transmitter
-    requires { ⌜ (t .channel .block ≤ 128) × (answer .code < 4) ⌝ }
+    requires { ⌜ (t .end .block ≤ 128) × (answer .code < 4) ⌝ }
     ensures { λ r. ⌜ r ≡ heard t choice answer ⌝ }
 {
     let sent = mark_sent(t, choice);

@@ -31,7 +31,7 @@ pub struct Alone {
 
 // What is sent is answered, and the answer heard.
 fn pass(t: Transmitter, choice: Choice, r: Receiver, from: u16, sent: Sent) -> Pair
-    requires { ⌜ (t .channel .block ≤ 128) × (r .channel .block ≤ 128) ⌝ }
+    requires { ⌜ (t .end .block ≤ 128) × (r .end .block ≤ 128) ⌝ }
     ensures { λ p. ⌜ p ≡ passed t choice r from sent ⌝ }
 {
     let answered = answer_slice(r, from, sent);
@@ -56,7 +56,7 @@ fn exchange_as(
     mask: u16,
     parity: bool,
 ) -> Pair
-    requires { ⌜ (t .channel .block ≤ 128) × (r .channel .block ≤ 128) ⌝ }
+    requires { ⌜ (t .end .block ≤ 128) × (r .end .block ≤ 128) ⌝ }
     ensures { λ p. ⌜ p ≡ exchangedAs t choice r from mask parity ⌝ }
 {
     if acts(choice) {
@@ -76,7 +76,7 @@ fn exchange_as(
 }
 
 pub fn exchange(t: Transmitter, r: Receiver, from: u16, mask: u16, parity: bool) -> Pair
-    requires { ⌜ (t .channel .block ≤ 128) × (r .channel .block ≤ 128) ⌝ }
+    requires { ⌜ (t .end .block ≤ 128) × (r .end .block ≤ 128) ⌝ }
     ensures { λ p. ⌜ p ≡ exchanged t r from mask parity ⌝ }
 {
     exchange_as(t, choose(t), r, from, mask, parity)
@@ -84,7 +84,7 @@ pub fn exchange(t: Transmitter, r: Receiver, from: u16, mask: u16, parity: bool)
 
 // Nobody answers: B is 00.
 fn pass_alone(t: Transmitter, choice: Choice) -> Alone
-    requires { ⌜ t .channel .block ≤ 128 ⌝ }
+    requires { ⌜ t .end .block ≤ 128 ⌝ }
     ensures { λ p. ⌜ p ≡ unheard t choice ⌝ }
 {
     let a = code(choice);
@@ -95,7 +95,7 @@ fn pass_alone(t: Transmitter, choice: Choice) -> Alone
 }
 
 fn send_alone_as(t: Transmitter, choice: Choice) -> Alone
-    requires { ⌜ t .channel .block ≤ 128 ⌝ }
+    requires { ⌜ t .end .block ≤ 128 ⌝ }
     ensures { λ p. ⌜ p ≡ sentAloneAs t choice ⌝ }
 {
     if acts(choice) {
@@ -108,7 +108,7 @@ fn send_alone_as(t: Transmitter, choice: Choice) -> Alone
 }
 
 pub fn send_alone(t: Transmitter) -> Alone
-    requires { ⌜ t .channel .block ≤ 128 ⌝ }
+    requires { ⌜ t .end .block ≤ 128 ⌝ }
     ensures { λ p. ⌜ p ≡ sentAlone t ⌝ }
 {
     send_alone_as(t, choose(t))

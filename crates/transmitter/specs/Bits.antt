@@ -31,8 +31,8 @@ controlOf t extension atInit atReady =
 -- TSR, with what stands at BUSY, at DTIRDY and at ERR
 abbrev pub statusOf : Transmitter → Bool → Bool → Bool → ℕ
 statusOf t atBusy atReady atError =
-    t .shown .a * 2 ^ TSR.RSP-A-0
-    + t .shown .b * 2 ^ TSR.RSP-B-0
+    t .end .shown .a * 2 ^ TSR.RSP-A-0
+    + t .end .shown .b * 2 ^ TSR.RSP-B-0
     + setAt TSR.TBS-BSY (t .outcome .busBusy)
     + setAt TSR.SORE (t .outcome .softwareReject)
     + setAt TSR.BUSY atBusy

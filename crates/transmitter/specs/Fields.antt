@@ -1,7 +1,6 @@
 -- A group of a transmitter's record with one bit or number changed: all that changes one goes by these.
 -- Assumes nothing.
 use mathlib.Core.Bool.{Bool}
-use Prim.Native.Nat.{ℕ}
 use Rattle.transmitter.specs.declared.side.Channel.{Channel}
 use Rattle.transmitter.specs.declared.side.Faults.{Faults}
 use Rattle.transmitter.specs.declared.side.Modes.{Modes}
@@ -23,77 +22,34 @@ withMemoryRequests m x =
 
 -- ---- TSR, the error bits
 
+-- all of them, in the order of the record
+abbrev faultsOf : Bool → Bool → Bool → Bool → Bool → Bool → Faults
+faultsOf a b c d e f =
+    record { overrun = a; timeOut = b; masterDown = c; transmissionError = d; memoryOverflow = e; nonexistentLocation = f }
+
 -- OVERUN
 abbrev pub withOverrun : Faults → Bool → Faults
-withOverrun f x =
-    record {
-      overrun = x;
-      timeOut = f .timeOut;
-      masterDown = f .masterDown;
-      transmissionError = f .transmissionError;
-      memoryOverflow = f .memoryOverflow;
-      nonexistentLocation = f .nonexistentLocation;
-    }
+withOverrun f x = faultsOf x (f .timeOut) (f .masterDown) (f .transmissionError) (f .memoryOverflow) (f .nonexistentLocation)
 
 -- TIM OUT
 abbrev pub withTimeOut : Faults → Bool → Faults
-withTimeOut f x =
-    record {
-      overrun = f .overrun;
-      timeOut = x;
-      masterDown = f .masterDown;
-      transmissionError = f .transmissionError;
-      memoryOverflow = f .memoryOverflow;
-      nonexistentLocation = f .nonexistentLocation;
-    }
+withTimeOut f x = faultsOf (f .overrun) x (f .masterDown) (f .transmissionError) (f .memoryOverflow) (f .nonexistentLocation)
 
 -- MST DWN
 abbrev pub withMasterDown : Faults → Bool → Faults
-withMasterDown f x =
-    record {
-      overrun = f .overrun;
-      timeOut = f .timeOut;
-      masterDown = x;
-      transmissionError = f .transmissionError;
-      memoryOverflow = f .memoryOverflow;
-      nonexistentLocation = f .nonexistentLocation;
-    }
+withMasterDown f x = faultsOf (f .overrun) (f .timeOut) x (f .transmissionError) (f .memoryOverflow) (f .nonexistentLocation)
 
 -- TXM ERR
 abbrev pub withTransmissionError : Faults → Bool → Faults
-withTransmissionError f x =
-    record {
-      overrun = f .overrun;
-      timeOut = f .timeOut;
-      masterDown = f .masterDown;
-      transmissionError = x;
-      memoryOverflow = f .memoryOverflow;
-      nonexistentLocation = f .nonexistentLocation;
-    }
+withTransmissionError f x = faultsOf (f .overrun) (f .timeOut) (f .masterDown) x (f .memoryOverflow) (f .nonexistentLocation)
 
 -- MEM OFL
 abbrev pub withMemoryOverflow : Faults → Bool → Faults
-withMemoryOverflow f x =
-    record {
-      overrun = f .overrun;
-      timeOut = f .timeOut;
-      masterDown = f .masterDown;
-      transmissionError = f .transmissionError;
-      memoryOverflow = x;
-      nonexistentLocation = f .nonexistentLocation;
-    }
+withMemoryOverflow f x = faultsOf (f .overrun) (f .timeOut) (f .masterDown) (f .transmissionError) x (f .nonexistentLocation)
 
 -- NXL
 abbrev pub withNonexistentLocation : Faults → Bool → Faults
-withNonexistentLocation f x =
-    record {
-      overrun = f .overrun;
-      timeOut = f .timeOut;
-      masterDown = f .masterDown;
-      transmissionError = f .transmissionError;
-      memoryOverflow = f .memoryOverflow;
-      nonexistentLocation = x;
-    }
+withNonexistentLocation f x = faultsOf (f .overrun) (f .timeOut) (f .masterDown) (f .transmissionError) (f .memoryOverflow) x
 
 -- ---- TSR, the rest
 
@@ -111,22 +67,10 @@ withSuccess o x = record { busBusy = o .busBusy; softwareReject = o .softwareRej
 
 -- ---- the channel
 
--- whether it is open
-abbrev pub withOpened : Channel → Bool → Channel
-withOpened c x = record { opened = x; ending = c .ending; awaiting = c .awaiting; destination = c .destination; block = c .block; crc = c .crc }
-
 -- whether T is ending
 abbrev pub withEnding : Channel → Bool → Channel
-withEnding c x = record { opened = c .opened; ending = x; awaiting = c .awaiting; destination = c .destination; block = c .block; crc = c .crc }
+withEnding c x = record { ending = x; awaiting = c .awaiting; destination = c .destination }
 
 -- whether a CRC was sent and not yet answered 11
 abbrev pub withAwaiting : Channel → Bool → Channel
-withAwaiting c x = record { opened = c .opened; ending = c .ending; awaiting = x; destination = c .destination; block = c .block; crc = c .crc }
-
--- the words since the last CRC
-abbrev pub withBlock : Channel → ℕ → Channel
-withBlock c x = record { opened = c .opened; ending = c .ending; awaiting = c .awaiting; destination = c .destination; block = x; crc = c .crc }
-
--- and their CRC
-abbrev pub withCrc : Channel → ℕ → Channel
-withCrc c x = record { opened = c .opened; ending = c .ending; awaiting = c .awaiting; destination = c .destination; block = c .block; crc = x }
+withAwaiting c x = record { ending = c .ending; awaiting = x; destination = c .destination }

@@ -23,7 +23,7 @@ use Rattle.transmitter.specs.declared.side.Transmitter.{Transmitter}
 -- "Transmitter: TX NPR, loaded, no ERR, room, RD SILO clear, not ending; else 4."
 abbrev pub mayMove : Transmitter → Bool
 mayMove t =
-    t .modes .memoryRequests && t .load .loaded && not (hasError t) && hasRoom 64 (t .silo) && not (t .modes .readSilo)
+    t .modes .memoryRequests && t .end .load .loaded && not (hasError t) && hasRoom 64 (t .end .silo) && not (t .modes .readSilo)
     && not (t .channel .ending)
 
 -- "Address outside the memory: NXL." It and memory overflow "come with number 0".
@@ -40,13 +40,13 @@ requestsAfter m after = withMemoryRequests m (m .memoryRequests && after .loaded
 
 -- "Else the word is loaded, 2 added to count and, unless INH ADI, to the address."
 abbrev pub gone : Transmitter → ℕ → Advance → Transmitter
-gone t word a = withModes (withLoad (withSilo t (put 64 (t .silo) word)) (a .load)) (requestsAfter (t .modes) (a .load))
+gone t word a = withModes (withLoad (withSilo t (put 64 (t .end .silo) word)) (a .load)) (requestsAfter (t .modes) (a .load))
 
 abbrev pub advanced : Transmitter → ℕ → Advance → Transmitter
 advanced t word a = pick (a .overflow) (overflowed (gone t word a)) (gone t word a)
 
 abbrev pub wordLoaded : Transmitter → ℕ → Transmitter
-wordLoaded t word = advanced t word (wordMoved (t .load) (t .modes .inhibitIncrement))
+wordLoaded t word = advanced t word (wordMoved (t .end .load) (t .modes .inhibitIncrement))
 
 -- the word at the load's address
 abbrev pub movedFrom : Transmitter → List ℕ → Place → Transmitter
@@ -60,4 +60,4 @@ doneWith t = record { side = t; answer = Move.Done }
 abbrev pub moved : Transmitter → List ℕ → ℕ → Moved
 moved t memory fitted =
     pick (not (mayMove t)) (record { side = t; answer = Move.Nothing })
-    (doneWith (movedFrom t memory (placeOf (t .load .address .0) fitted)))
+    (doneWith (movedFrom t memory (placeOf (t .end .load .address .0) fitted)))

@@ -11,4 +11,4 @@ use Rattle.transmitter.specs.declared.side.Transmitter.{Transmitter}
 -- "A word accepted, or not being busy, clears it": the mark that is set on a transmitter not BUSY settles to none. TIM OUT does not use
 -- the mark up (reading 31), and closes nothing at once (reading 28).
 abbrev pub periodPassed : Transmitter → Transmitter
-periodPassed t = pick (t .mark && isBusy t) (failed t (withTimeOut (t .faults) true)) (settled (withMark t true))
+periodPassed t = pick (t .end .mark && isBusy t) (failed t (withTimeOut (t .faults) true)) (settled (withMark t true))

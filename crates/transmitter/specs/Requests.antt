@@ -12,7 +12,7 @@ requested t = withCommands t noCommands
 
 -- Memory moves and periods: "not being busy, clears it", the period's mark, at the end of any call that leaves T not BUSY (reading 31)
 abbrev pub settled : Transmitter → Transmitter
-settled t = withMark t (t .mark && isBusy t)
+settled t = withMark t (t .end .mark && isBusy t)
 
 -- an event that sets ERR: it makes a request each time, also where ERR stands (reading 11)
 abbrev pub failed : Transmitter → Faults → Transmitter

@@ -55,8 +55,8 @@ fn status_sum(t: Transmitter, atBusy: bool, atReady: bool, atError: bool) -> u16
     requires { ⌜ statusOf t atBusy atReady atError < 65536 ⌝ }
     ensures { λ r. ⌜ r ≡ statusOf t atBusy atReady atError ⌝ }
 {
-    let a = t.shown.a;
-    let b = t.shown.b;
+    let a = t.end.shown.a;
+    let b = t.end.shown.b;
     let busBusy = t.outcome.busBusy;
     let softwareReject = t.outcome.softwareReject;
     let success = t.outcome.success;

@@ -2,13 +2,20 @@
 use crate::requests::fail;
 use crate::side::Transmitter;
 ghost use mathlib.Core.Path.{_≡_};
-ghost use Rattle.transmitter.specs.Down.{masterMissed};
+ghost use Rattle.transmitter.specs.Down.{missesMaster, masterMissed};
+
+// Whether it wants to send.
+pub fn misses_master(t: Transmitter) -> bool
+    ensures { λ r. ⌜ r ≡ missesMaster t ⌝ }
+{
+    let silo = t.end.silo;
+    t.commands.sendWord & !silo.is_empty()
+}
 
 pub fn miss_master(t: Transmitter) -> Transmitter
     ensures { λ r. ⌜ r ≡ masterMissed t ⌝ }
 {
-    let silo = t.silo;
-    if t.commands.sendWord & !silo.is_empty() {
+    if misses_master(t) {
         let mut faults = t.faults;
         faults.masterDown = true;
         return fail(t, faults);

@@ -18,11 +18,11 @@ pub struct Moved {
 }
 
 // Whether there is something to move, and room for it.
-fn may_move(t: Transmitter) -> bool
+pub fn may_move(t: Transmitter) -> bool
     ensures { λ r. ⌜ r ≡ mayMove t ⌝ }
 {
-    let silo = t.silo;
-    let load = t.load;
+    let silo = t.end.silo;
+    let load = t.end.load;
     t.modes.memoryRequests
         & load.loaded
         & !has_error(t)
@@ -53,12 +53,13 @@ fn overflow(t: Transmitter) -> Transmitter
 fn take_word(t: Transmitter, word: u16, advance: Advance) -> Transmitter
     ensures { λ r. ⌜ r ≡ advanced t word advance ⌝ }
 {
-    let silo = t.silo;
     let load = advance.load;
     let requests = t.modes.memoryRequests & load.loaded;
+    let mut end = t.end;
+    end.silo = end.silo.put(WORDS, word);
+    end.load = load;
     let mut next = t;
-    next.silo = silo.put(WORDS, word);
-    next.load = load;
+    next.end = end;
     next.modes.memoryRequests = requests;
     if advance.overflow {
         return overflow(next);
@@ -70,7 +71,7 @@ fn load_word(t: Transmitter, word: u16) -> Transmitter
     requires { ⌜ Within t ⌝ }
     ensures { λ r. ⌜ r ≡ wordLoaded t word ⌝ }
 {
-    let load = t.load;
+    let load = t.end.load;
     take_word(t, word, load.word_moved(t.modes.inhibitIncrement))
 }
 
@@ -86,7 +87,7 @@ pub fn move_word(t: Transmitter, memory: &[u16], fitted: usize) -> Moved
             answer: Move::Nothing,
         };
     }
-    let load = t.load;
+    let load = t.end.load;
     let address = load.address;
     let Place::Inside(at) = address.place(fitted) else {
         return Moved {

@@ -10,13 +10,13 @@ pub fn pass_period(t: Transmitter) -> Transmitter
     ensures { λ r. ⌜ r ≡ periodPassed t ⌝ }
 {
     // With the mark standing, TIM OUT.
-    if t.mark & is_busy(t) {
+    if t.end.mark & is_busy(t) {
         let mut faults = t.faults;
         faults.timeOut = true;
         return fail(t, faults);
     }
     // On a BUSY transmitter the mark is set, and on another there is none.
     let mut next = t;
-    next.mark = true;
+    next.end.mark = true;
     settle(next)
 }

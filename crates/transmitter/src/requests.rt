@@ -20,9 +20,9 @@ pub fn request(t: Transmitter) -> Transmitter
 pub fn settle(t: Transmitter) -> Transmitter
     ensures { λ r. ⌜ r ≡ settled t ⌝ }
 {
-    let mark = t.mark & is_busy(t);
+    let mark = t.end.mark & is_busy(t);
     let mut next = t;
-    next.mark = mark;
+    next.end.mark = mark;
     next
 }
 

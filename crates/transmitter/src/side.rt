@@ -1,8 +1,6 @@
 // The record of a transmitter, in small groups, and what the rules ask of it.
-use silos::Silo;
+use ends::End;
 use silos::WORDS;
-use words::codes::Codes;
-use words::load::Load;
 ghost use mathlib.Core.Path.{_≡_};
 ghost use Rattle.transmitter.specs.Side.{initial, isBusy, hasError, dataInReady};
 
@@ -39,27 +37,20 @@ pub struct Outcome {
     pub success: bool,
 }
 
-// The channel: whether it is open, the last CRC is being sent, a CRC's verdict is awaited; the destination latched at the
-// opening, the words since the last CRC, and their CRC.
+// The channel: whether the last CRC is being sent, a CRC's verdict is awaited, and the destination latched at the opening.
 pub struct Channel {
-    pub opened: bool,
     pub ending: bool,
     pub awaiting: bool,
     pub destination: u16,
-    pub block: u16,
-    pub crc: u16,
 }
 
 pub struct Transmitter {
-    pub silo: Silo,
-    pub load: Load,
-    pub shown: Codes,
+    pub end: End,
     pub commands: Commands,
     pub modes: Modes,
     pub faults: Faults,
     pub outcome: Outcome,
     pub channel: Channel,
-    pub mark: bool,
 }
 
 // What fit, TX INIT and reset give.
@@ -67,9 +58,7 @@ pub fn start() -> Transmitter
     ensures { λ r. ⌜ r ≡ initial ⌝ }
 {
     Transmitter {
-        silo: Silo::empty(),
-        load: Load::none(),
-        shown: Codes::none(),
+        end: End::none(),
         commands: Commands {
             startTransmission: false,
             sendWord: false,
@@ -96,14 +85,10 @@ pub fn start() -> Transmitter
             success: false,
         },
         channel: Channel {
-            opened: false,
             ending: false,
             awaiting: false,
             destination: 0,
-            block: 0,
-            crc: 0,
         },
-        mark: false,
     }
 }
 
@@ -111,7 +96,7 @@ pub fn start() -> Transmitter
 pub fn is_busy(t: Transmitter) -> bool
     ensures { λ r. ⌜ r ≡ isBusy t ⌝ }
 {
-    t.commands.sendWord | t.channel.opened
+    t.commands.sendWord | t.end.opened
 }
 
 // ERR.
@@ -130,6 +115,6 @@ pub fn has_error(t: Transmitter) -> bool
 pub fn is_data_in_ready(t: Transmitter) -> bool
     ensures { λ r. ⌜ r ≡ dataInReady t ⌝ }
 {
-    let silo = t.silo;
+    let silo = t.end.silo;
     silo.has_room(WORDS) & !t.modes.memoryRequests & !t.modes.readSilo & !t.channel.ending
 }

@@ -10,7 +10,7 @@ use Rattle.transmitter.specs.declared.side.Transmitter.{Transmitter}
 
 -- TX INIT is write-only and reads 0 (reading 4). DT O RDY: a word is held (reading 3).
 abbrev pub controlWord : Transmitter → ℕ
-controlWord t = controlOf t (extensionOf (t .load .address .0)) false (not (isEmpty (t .silo)))
+controlWord t = controlOf t (extensionOf (t .end .load .address .0)) false (not (isEmpty (t .end .silo)))
 
 abbrev pub statusWord : Transmitter → ℕ
 statusWord t = statusOf t (isBusy t) (dataInReady t) (hasError t)

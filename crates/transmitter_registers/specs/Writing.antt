@@ -33,7 +33,7 @@ initialises word = bitAt word TCR.TX-INIT
 -- what a write without TX INIT does: "Read-only bits ignore writes."
 abbrev pub controlWritten : Transmitter → ℕ → Transmitter
 controlWritten t word =
-    settled (withModes (withCommands (withLoad t (extensionLoaded (t .load) (bits word TCR.EA16 2))) (commandsIn word)) (modesIn word))
+    settled (withModes (withCommands (withLoad t (extensionLoaded (t .end .load) (bits word TCR.EA16 2))) (commandsIn word)) (modesIn word))
 
 -- ---- TSR
 
@@ -44,7 +44,7 @@ faultsWritten before word = withNonexistentLocation (faultsIn word) (before .non
 -- SUC TXF taken from clear to set clears the codes shown (reading 16)
 abbrev pub statusSet : Transmitter → ℕ → Transmitter
 statusSet t word =
-    withOutcome (withFaults (withShown t (codesCleared (t .shown) (not (t .outcome .success) && outcomeIn word .success))) (faultsWritten (t .faults) word))
+    withOutcome (withFaults (withShown t (codesCleared (t .end .shown) (not (t .outcome .success) && outcomeIn word .success))) (faultsWritten (t .faults) word))
     (outcomeIn word)
 
 -- "A standing bit is set again by an event, not by a host's write of it": a write makes a request where it takes ERR, SUC TXF, SORE, or
@@ -67,16 +67,16 @@ statusWritten t word = requestRaised t (statusSet t word)
 -- "TSDB write: taken if DTIRDY ..; else 6." "TSDB: OVERUN set, with its request". It adds nothing to TSBC (reading 7).
 abbrev pub dataWritten : Transmitter → ℕ → Written
 dataWritten t word =
-    pick (dataInReady t) (record { side = withSilo t (put 64 (t .silo) word); answer = Write.Done })
+    pick (dataInReady t) (record { side = withSilo t (put 64 (t .end .silo) word); answer = Write.Done })
     (record { side = failed t (withOverrun (t .faults) true); answer = Write.Dropped })
 
 -- ---- TSBC and TSBA: bit 0 reads back 0 (reading 6)
 
 abbrev pub countWritten : Transmitter → ℕ → Transmitter
-countWritten t word = withLoad t (countLoaded (t .load) word)
+countWritten t word = withLoad t (countLoaded (t .end .load) word)
 
 abbrev pub addressWritten : Transmitter → ℕ → Transmitter
-addressWritten t word = withLoad t (lowLoaded (t .load) word)
+addressWritten t word = withLoad t (lowLoaded (t .end .load) word)
 
 -- ---- all registers
 
@@ -94,9 +94,17 @@ written t offset word =
     (pick (eqb offset 12) (done t)
     (record { side = t; answer = Write.NoRegister }))))))
 
+-- the registers that a write changes: TCR, TSR, TSDB, TSBC and TSBA
+abbrev pub changes : ℕ → Bool
+changes offset = eqb offset 0 || eqb offset 2 || eqb offset 4 || eqb offset 6 || eqb offset 8
+
 -- "byte write to TSDB or RDDB" is 3 (reading 8); any other byte write is the write of its register's word with that half changed, which
 -- marks TSBC loaded (reading 6)
 abbrev pub byteWritten : Transmitter → ℕ → ℕ → Written
 byteWritten t offset byte =
     pick (eqb (evenBelow offset) 4) (record { side = t; answer = Write.ByteRefused })
     (written t (evenBelow offset) (withHalf (readWord (showOf t (evenBelow offset))) offset byte))
+
+-- and those that a byte written changes
+abbrev pub changesByte : ℕ → Bool
+changesByte offset = not (eqb (evenBelow offset) 4) && changes (evenBelow offset)

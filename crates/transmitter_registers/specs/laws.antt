@@ -1,2 +1,3 @@
 pub mod Keeps
 pub mod NoInit
+pub mod Stays

@@ -16,8 +16,8 @@ use words::halves::register_offset;
 use words::halves::with_half;
 ghost use mathlib.Core.Path.{_≡_};
 ghost use Rattle.transmitter.specs.Side.{Within};
-ghost use Rattle.transmitter_registers.specs.Reading.{dataRead, showOf, readOf};
-ghost use Rattle.transmitter_registers.specs.Writing.{initialises, written, byteWritten};
+ghost use Rattle.transmitter_registers.specs.Reading.{dataRead, showOf, readOf, removes};
+ghost use Rattle.transmitter_registers.specs.Writing.{initialises, written, byteWritten, changes, changesByte};
 
 pub struct Reading {
     pub side: Transmitter,
@@ -35,7 +35,7 @@ pub struct Written {
 fn read_data(t: Transmitter) -> Reading
     ensures { λ r. ⌜ r ≡ dataRead t ⌝ }
 {
-    let silo = t.silo;
+    let silo = t.end.silo;
     if silo.is_empty() {
         return Reading {
             side: t,
@@ -44,8 +44,10 @@ fn read_data(t: Transmitter) -> Reading
     }
     let answer = Read::Word(silo.oldest());
     if t.modes.readSilo {
+        let mut end = t.end;
+        end.silo = silo.take();
         let mut next = t;
-        next.silo = silo.take();
+        next.end = end;
         return Reading { side: next, answer };
     }
     Reading { side: t, answer }
@@ -56,7 +58,7 @@ fn show(t: Transmitter, offset: u32) -> Read
     requires { ⌜ Within t ⌝ }
     ensures { λ r. ⌜ r ≡ showOf t offset ⌝ }
 {
-    let load = t.load;
+    let load = t.end.load;
     let count = load.count;
     let address = load.address;
     match offset {
@@ -64,7 +66,7 @@ fn show(t: Transmitter, offset: u32) -> Read
         2 => Read::Word(status_word(t)),
         6 => Read::Word(count.0),
         8 => Read::Word(address.low()),
-        12 => Read::Word(t.channel.crc),
+        12 => Read::Word(t.end.crc),
         _ => Read::NoRegister,
     }
 }
@@ -80,6 +82,14 @@ pub fn read(t: Transmitter, offset: u32) -> Reading
         side: t,
         answer: show(t, offset),
     }
+}
+
+// Whether a read removes a word.
+pub fn removes(t: Transmitter, offset: u32) -> bool
+    ensures { λ r. ⌜ r ≡ removes t offset ⌝ }
+{
+    let silo = t.end.silo;
+    (offset == 4) & t.modes.readSilo & !silo.is_empty()
 }
 
 // ---- writing
@@ -124,6 +134,13 @@ pub fn write(t: Transmitter, offset: u32, word: u16) -> Written
     }
 }
 
+// Whether a write changes the register.
+pub fn changes(offset: u32) -> bool
+    ensures { λ r. ⌜ r ≡ changes offset ⌝ }
+{
+    (offset == 0) | (offset == 2) | (offset == 4) | (offset == 6) | (offset == 8)
+}
+
 // A byte is written as its register's word with that half changed; a byte of TSDB is refused.
 pub fn write_byte(t: Transmitter, offset: u32, byte: u8) -> Written
     requires { ⌜ Within t ⌝ }
@@ -138,4 +155,12 @@ pub fn write_byte(t: Transmitter, offset: u32, byte: u8) -> Written
     }
     let before = word_read(show(t, register));
     write(t, register, with_half(before, offset, byte))
+}
+
+// Whether a byte written changes its register.
+pub fn changes_byte(offset: u32) -> bool
+    ensures { λ r. ⌜ r ≡ changesByte offset ⌝ }
+{
+    let register = register_offset(offset);
+    (register != 4) & changes(register)
 }

@@ -14,8 +14,8 @@ pub fn control_word(t: Transmitter) -> u16
     requires { ⌜ Within t ⌝ }
     ensures { λ r. ⌜ r ≡ controlWord t ⌝ }
 {
-    let silo = t.silo;
-    let load = t.load;
+    let silo = t.end.silo;
+    let load = t.end.load;
     let address = load.address;
     control_bits(t, address.extension(), false, !silo.is_empty())
 }

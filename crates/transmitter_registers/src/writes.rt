@@ -25,9 +25,10 @@ ghost use Rattle.transmitter_registers.specs.Writing.{faultsWritten, ris
 pub fn write_control(t: Transmitter, word: u16) -> Transmitter
     ensures { λ r. ⌜ r ≡ controlWritten t word ⌝ }
 {
-    let load = t.load;
+    let mut end = t.end;
+    end.load = end.load.with_extension(bits_at(word, tcr::EA16, 2));
     let mut next = t;
-    next.load = load.with_extension(bits_at(word, tcr::EA16, 2));
+    next.end = end;
     next.commands = commands_in(word);
     next.modes = modes_in(word);
     settle(next)
@@ -48,9 +49,10 @@ fn set_status(t: Transmitter, word: u16) -> Transmitter
 {
     let faults = t.faults;
     let outcome = outcome_in(word);
-    let shown = t.shown;
+    let mut end = t.end;
+    end.shown = end.shown.clear(!t.outcome.success & outcome.success);
     let mut next = t;
-    next.shown = shown.clear(!t.outcome.success & outcome.success);
+    next.end = end;
     next.faults = faults_written(faults, word);
     next.outcome = outcome;
     next
@@ -89,9 +91,10 @@ pub fn write_data(t: Transmitter, word: u16) -> Written
     ensures { λ r. ⌜ r ≡ dataWritten t word ⌝ }
 {
     if is_data_in_ready(t) {
-        let silo = t.silo;
+        let mut end = t.end;
+        end.silo = end.silo.put(WORDS, word);
         let mut next = t;
-        next.silo = silo.put(WORDS, word);
+        next.end = end;
         return Written {
             side: next,
             answer: Write::Done,
@@ -109,9 +112,10 @@ pub fn write_data(t: Transmitter, word: u16) -> Written
 pub fn write_count(t: Transmitter, word: u16) -> Transmitter
     ensures { λ r. ⌜ r ≡ countWritten t word ⌝ }
 {
-    let load = t.load;
+    let mut end = t.end;
+    end.load = end.load.with_count(word);
     let mut next = t;
-    next.load = load.with_count(word);
+    next.end = end;
     next
 }
 
@@ -120,8 +124,9 @@ pub fn write_address(t: Transmitter, word: u16) -> Transmitter
     requires { ⌜ Within t ⌝ }
     ensures { λ r. ⌜ r ≡ addressWritten t word ⌝ }
 {
-    let load = t.load;
+    let mut end = t.end;
+    end.load = end.load.with_low(word);
     let mut next = t;
-    next.load = load.with_low(word);
+    next.end = end;
     next
 }

@@ -44,22 +44,22 @@ module _ (r : Receiver) (from : ℕ) (sent : Sent) (l : Listening r from) where
   by-rule rule some e = ap (answeredAs r from sent) (sym (e ∙ by-code some))
 
   -- A 10, a word
-  pub hears-word : sent .code ≡ 2 → r .channel .block < 128 → hasRoom 64 (r .silo) ≡ true → goodParity (sent .word) (sent .parity) ≡ true
+  pub hears-word : sent .code ≡ 2 → r .end .block < 128 → hasRoom 64 (r .end .silo) ≡ true → goodParity (sent .word) (sent .parity) ≡ true
       → answeredBy r from sent ≡ answering 3 (afterWord r (sent .word))
   hears-word code short room good =
       let ready : ((r .commands .receiveData || r .commands .receiveWord) && dataInReady r) ≡ true = rw (l .receiving) room in
       let rule : Rule.Stores ≡ decidedByCode r sent =
-      rw code (past _ (ne-eqb (r .channel .block) 128 (omega arith)) (here _ ready refl)) in
+      rw code (past _ (ne-eqb (r .end .block) 128 (omega arith)) (here _ ready refl)) in
       by-rule Rule.Stores (rw code) rule ∙ rw (l .receiving, l .noError, code, good)
 
   -- A 10, the due CRC: it is taken, and then found good
-  pub hears-due : sent .code ≡ 2 → r .channel .block ≡ 128 → r .channel .owed ≡ false → sent .word ≡ r .channel .crc
+  pub hears-due : sent .code ≡ 2 → r .end .block ≡ 128 → r .channel .owed ≡ false → sent .word ≡ r .end .crc
       → answeredBy r from sent ≡ answering 1 (afterCrc r 2)
   hears-due code full free own =
       let rule : Rule.TakesCrc ≡ decidedByCode r sent = rw (code, full) (here _ (ap not free) refl) in
-      by-rule Rule.TakesCrc (rw code) rule ∙ rw (l .noError, code, eq-eqb (sent .word) (r .channel .crc) own)
+      by-rule Rule.TakesCrc (rw code) rule ∙ rw (l .noError, code, eq-eqb (sent .word) (r .end .crc) own)
 
-  pub passes-due : sent .code ≡ 2 → r .channel .block ≡ 128 → r .channel .owed ≡ true → r .channel .good ≡ true
+  pub passes-due : sent .code ≡ 2 → r .end .block ≡ 128 → r .channel .owed ≡ true → r .channel .good ≡ true
       → answeredBy r from sent
       ≡ record { side = afterDue r; answer = record { code = 3; rejects = false; truncates = false; restarts = true; truncated = false } }
   passes-due code full owed good =
@@ -67,13 +67,13 @@ module _ (r : Receiver) (from : ℕ) (sent : Sent) (l : Listening r from) where
       by-rule Rule.Restarts (rw code) rule ∙ rw (l .noError, code)
 
   -- A 11, the last CRC: it is taken, and then, with the silo empty, found good
-  pub hears-last : sent .code ≡ 3 → r .channel .owed ≡ false → sent .word ≡ r .channel .crc
+  pub hears-last : sent .code ≡ 3 → r .channel .owed ≡ false → sent .word ≡ r .end .crc
       → answeredBy r from sent ≡ answering 1 (afterCrc r 3)
   hears-last code free own =
       let rule : Rule.TakesCrc ≡ decidedByCode r sent = rw code (here _ (ap not free) refl) in
-      by-rule Rule.TakesCrc (rw code) rule ∙ rw (l .noError, code, eq-eqb (sent .word) (r .channel .crc) own)
+      by-rule Rule.TakesCrc (rw code) rule ∙ rw (l .noError, code, eq-eqb (sent .word) (r .end .crc) own)
 
-  pub passes-last : sent .code ≡ 3 → r .channel .owed ≡ true → r .channel .good ≡ true → isEmpty (r .silo) ≡ true
+  pub passes-last : sent .code ≡ 3 → r .channel .owed ≡ true → r .channel .good ≡ true → isEmpty (r .end .silo) ≡ true
       → r .channel .truncated ≡ false → answeredBy r from sent ≡ answering 3 (afterLast r)
   passes-last code owed good none whole =
       let emptied : (dataOutReady r && not (r .channel .truncated)) ≡ false = rw none in

@@ -1,21 +1,24 @@
 -- What every answer keeps: the code B is a code, who is not of the channel leaves R untouched, and R stays within the values its numbers
 -- may take.
 -- Assumes nothing.
-use mathlib.Core.Bool.{Bool, true, false, not, _&&_, _||_}
+use mathlib.Core.Bool.{Bool, true, false, not, _&&_, _||_, false≢true}
 use mathlib.Core.Path.{_≡_, refl, ap, sym}
 use Prim.Native.Nat.{ℕ, _<_}
 use native.Mathlib.Omega.{arith}
-use borrow.Author.Tests.{eqb-false}
-use lib.Dec.{eqb, lit<}
+use borrow.Author.Tests.{eqb-false, not-false}
+use lib.Dec.{eqb, lit<, lit≤}
+use Rattle.ends.specs.Ends as E
+use Rattle.ends.specs.laws.EndKept.{silo-kept, shown-kept, restart-kept, count-kept}
 use Rattle.laws.specs.Pick.{past, here, either}
-use Rattle.receiver.specs.laws.Keeps.{within-failed}
-use Rattle.receiver.specs.Side.{Within, dataInReady, dataOutReady}
+use Rattle.receiver.specs.laws.Keeps.{within-requested}
+use Rattle.receiver.specs.Side.{Within, hasError, dataInReady, dataOutReady}
 use Rattle.receiver.specs.declared.side.Receiver.{Receiver}
+use Rattle.silos.specs.laws.Laws.{sized-put}
+use Rattle.words.specs.laws.CodeLaws.{coded-none, coded-shown}
 use Rattle.words.specs.declared.lines.Sent.{Sent}
 use Rattle.answering.specs.Choice.{openWithAnother, mayOpen, closingFault, rejecting, truncating, decidedCrc, decidedWord, decidedByCode, decidedOpen, decided}
-use Rattle.answering.specs.Events.{showing, parityFailed, transmissionFailed, rejectCompleted, succeeded, opening}
+use Rattle.answering.specs.Events.{showing, closed, parityFailed, transmissionFailed, rejectCompleted, succeeded, wordKept, wordStored, opening}
 use Rattle.answering.specs.Rules.{untouched, answeredAs, answeredBy}
-use Rattle.answering.specs.laws.Within.{within-shown, within-closed, within-rejected, within-succeeded, within-opening, within-taken, within-restarted, within-truncated, within-stored}
 use Rattle.answering.specs.declared.choice.Rule.{Rule}
 
 -- ---- the code B
@@ -49,7 +52,7 @@ module _ (r : Receiver) (from : ℕ) (sent : Sent) where
       let rule : Rule.Other ≡ decided r from sent = here _ other refl in
       ap (answeredAs r from sent) (sym rule)
 
-  pub refused-untouched : r .channel .opened ≡ false → mayOpen r sent ≡ false → answeredBy r from sent ≡ untouched r
+  pub refused-untouched : r .end .opened ≡ false → mayOpen r sent ≡ false → answeredBy r from sent ≡ untouched r
   refused-untouched shut refused =
       let own : openWithAnother r from ≡ false = rw shut in
       let rule : Rule.Refuses ≡ decided r from sent = past _ own (here _ (ap not shut) (past _ refused refl)) in
@@ -57,52 +60,59 @@ module _ (r : Receiver) (from : ℕ) (sent : Sent) where
 
 -- ---- the values of the numbers
 
+module _ (r : Receiver) (end : E.Within (r .end)) (sender : r .modes .sender < 32) where
+  -- closing, and a word that is stored, clear the period's mark
+  shut : Within (closed r)
+  shut = record { end = end; sender = sender; truncated = λ e. absurd (false≢true e); marked = λ e. absurd (false≢true e) }
+
+  stored : (r .channel .truncated ≡ true → r .end .opened ≡ true) → (sent : Sent) → r .end .block < 128 → Within (wordStored r sent)
+  stored truncated sent short =
+      let counted = count-kept (silo-kept end (sized-put 64 (lit≤ tt) (r .end .silo) (sent .word) (end .silo))) (sent .word) short in
+      let kept : Within (wordKept r sent) = record { end = counted; sender = sender; truncated = truncated; marked = λ e. absurd (false≢true e) } in
+      either Within (r .commands .receiveData) (λ e. kept) (λ e. within-requested (wordKept r sent) kept)
+
 module _ (r : Receiver) (h : Within r) (from : ℕ) (sent : Sent) (address : from < 32) (code : sent .code < 4) where
   abbrev Kept : Rule → Type 0
   Kept rule = Within (answeredAs r from sent rule .side)
 
-  shows : (b : ℕ) → b < 4 → Within (showing r (sent .code) b)
-  shows b fits = within-shown r h (sent .code) b code fits
+  -- the codes of the slice are shown
+  shows : (b : ℕ) → b < 4 → E.Within (showing r (sent .code) b .end)
+  shows b fits = shown-kept (h .end) (coded-shown (r .end .shown) (hasError r) (sent .code) b (h .end .shown) code fits)
 
   -- a word is stored at the opening, or with fewer than 128 since the last CRC
   kept-opens : Kept Rule.Opens
-  kept-opens =
-      let s = showing r (sent .code) 3 in within-stored (opening s from) (within-opening s (shows 3 (lit< tt)) from address) sent (lit< tt)
+  kept-opens = stored (opening (showing r (sent .code) 3) from) (restart-kept (shows 3 (lit< tt))) address (λ e. refl) sent (lit< tt)
 
-  kept-stores : eqb (r .channel .block) 128 ≡ false → Kept Rule.Stores
+  kept-stores : eqb (r .end .block) 128 ≡ false → Kept Rule.Stores
   kept-stores e =
-      within-stored (showing r (sent .code) 3) (shows 3 (lit< tt)) sent (omega (arith, h .block, eqb-false (r .channel .block) 128 e))
+      stored (showing r (sent .code) 3) (shows 3 (lit< tt)) (h .sender) (h .truncated) sent (omega (arith, h .end .block, eqb-false (r .end .block) 128 e))
 
   kept-faulted : Kept Rule.Faulted
-  kept-faulted = within-closed (showing r (sent .code) 0) (shows 0 (lit< tt))
+  kept-faulted = shut (showing r (sent .code) 0) (shows 0 (lit< tt)) (h .sender)
 
   kept-check-failed : Kept Rule.BadCrc
-  kept-check-failed =
-      let s = showing r (sent .code) 2 in within-closed (parityFailed s) (within-failed s (shows 2 (lit< tt)) (parityFailed s .faults))
+  kept-check-failed = shut (parityFailed (showing r (sent .code) 2)) (shows 2 (lit< tt)) (h .sender)
 
   kept-off-line : Kept Rule.OffLine
-  kept-off-line =
-      let s = showing r (sent .code) 0 in
-      within-closed (transmissionFailed s) (within-failed s (shows 0 (lit< tt)) (transmissionFailed s .faults))
+  kept-off-line = shut (transmissionFailed (showing r (sent .code) 0)) (shows 0 (lit< tt)) (h .sender)
 
   kept-rejects : Kept Rule.Rejects
-  kept-rejects =
-      let s = showing r (sent .code) 1 in within-closed (rejectCompleted s) (within-rejected s (shows 1 (lit< tt)))
-
-  kept-truncates : Kept Rule.Truncates
-  kept-truncates = within-truncated (showing r (sent .code) 1) (shows 1 (lit< tt))
-
-  kept-takes : Kept Rule.TakesCrc
-  kept-takes = within-taken (showing r (sent .code) 1) (shows 1 (lit< tt)) sent
-
-  kept-restarts : Kept Rule.Restarts
-  kept-restarts = within-restarted (showing r (sent .code) 3) (shows 3 (lit< tt))
+  kept-rejects = shut (rejectCompleted (showing r (sent .code) 1)) (shows 1 (lit< tt)) (h .sender)
 
   kept-succeeds : Kept Rule.Succeeds
-  kept-succeeds = let s = showing r (sent .code) 3 in within-closed (succeeded s) (within-succeeded s (shows 3 (lit< tt)))
+  kept-succeeds = shut (succeeded (showing r (sent .code) 3)) (shown-kept (h .end) coded-none) (h .sender)
+
+  kept-truncates : r .end .opened ≡ true → Kept Rule.Truncates
+  kept-truncates open-now = record { end = shows 1 (lit< tt); sender = h .sender; truncated = λ e. open-now; marked = h .marked }
+
+  kept-takes : Kept Rule.TakesCrc
+  kept-takes = record { end = shows 1 (lit< tt); sender = h .sender; truncated = h .truncated; marked = h .marked }
+
+  kept-restarts : Kept Rule.Restarts
+  kept-restarts = record { end = restart-kept (shows 3 (lit< tt)); sender = h .sender; truncated = h .truncated; marked = h .marked }
 
   kept-waiting : Kept Rule.Null
-  kept-waiting = shows 1 (lit< tt)
+  kept-waiting = record { end = shows 1 (lit< tt); sender = h .sender; truncated = h .truncated; marked = h .marked }
 
   kept-crc : (due : Bool) → Kept (decidedCrc r due)
   kept-crc due =
@@ -111,24 +121,24 @@ module _ (r : Receiver) (h : Within r) (from : ℕ) (sent : Sent) (address : fro
       (λ e. either Kept due (λ e. kept-restarts)
       (λ e. either Kept (dataOutReady r && not (r .channel .truncated)) (λ e. kept-waiting) (λ e. kept-succeeds))))
 
-  kept-word : eqb (r .channel .block) 128 ≡ false → Kept (decidedWord r)
+  kept-word : eqb (r .end .block) 128 ≡ false → Kept (decidedWord r)
   kept-word short =
       either Kept ((r .commands .receiveData || r .commands .receiveWord) && dataInReady r) (λ e. kept-stores short) (λ e. kept-waiting)
 
   kept-by-code : Kept (decidedByCode r sent)
   kept-by-code =
       either Kept (eqb (sent .code) 3) (λ e. kept-crc false)
-      (λ e. either Kept (eqb (sent .code) 2) (λ e. either Kept (eqb (r .channel .block) 128) (λ e. kept-crc true) kept-word)
+      (λ e. either Kept (eqb (sent .code) 2) (λ e. either Kept (eqb (r .end .block) 128) (λ e. kept-crc true) kept-word)
       (λ e. kept-waiting))
 
-  kept-open : Kept (decidedOpen r sent)
-  kept-open =
+  kept-open : r .end .opened ≡ true → Kept (decidedOpen r sent)
+  kept-open open-now =
       either Kept (closingFault (r .faults)) (λ e. kept-faulted)
       (λ e. either Kept (r .channel .badParity) (λ e. kept-check-failed)
       (λ e. either Kept (eqb (sent .code) 0) (λ e. kept-off-line)
-      (λ e. either Kept (rejecting r) (λ e. kept-rejects) (λ e. either Kept (truncating r sent) (λ e. kept-truncates) (λ e. kept-by-code)))))
+      (λ e. either Kept (rejecting r) (λ e. kept-rejects) (λ e. either Kept (truncating r sent) (λ e. kept-truncates open-now) (λ e. kept-by-code)))))
 
   pub within-answered : Within (answeredBy r from sent .side)
   within-answered =
       either Kept (openWithAnother r from) (λ e. h)
-      (λ e. either Kept (not (r .channel .opened)) (λ e. either Kept (mayOpen r sent) (λ e. kept-opens) (λ e. h)) (λ e. kept-open))
+      (λ e. either Kept (not (r .end .opened)) (λ e. either Kept (mayOpen r sent) (λ e. kept-opens) (λ e. h)) (λ e. kept-open (not-false (r .end .opened) e)))

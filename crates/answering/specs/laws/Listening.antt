@@ -3,19 +3,20 @@
 use mathlib.Core.Bool.{true, false}
 use mathlib.Core.Path.{_≡_, refl}
 use Prim.Native.Nat.{ℕ}
+use Rattle.ends.specs.Ends as E
 use Rattle.receiver.specs.Requests.{requested}
-use Rattle.receiver.specs.Fields.{withSuccess}
-use Rattle.receiver.specs.Groups.{withSilo, withShown, withOutcome, withChannel, withMark}
+use Rattle.receiver.specs.Fields.{withSuccess, withBadParity}
+use Rattle.receiver.specs.Groups.{withEnd, withShown, withOutcome, withChannel}
 use Rattle.receiver.specs.Side.{hasError}
 use Rattle.receiver.specs.declared.side.Receiver.{Receiver}
 use Rattle.silos.specs.Silo.{hasRoom, put}
 use Rattle.words.specs.Codes.{noCodes}
 use Rattle.words.specs.declared.codes.Codes.{Codes}
-use Rattle.answering.specs.Events.{closed, withWord, verdict, opening, restarted}
+use Rattle.answering.specs.Events.{closed, verdict, opening, restarted}
 
 -- open with the transmitter `from`, and nothing stands against a word more
 pub record Listening (r : Receiver) (from : ℕ) : Type 0 where
-  pub opened : r .channel .opened ≡ true
+  pub opened : r .end .opened ≡ true
   pub sender : r .modes .sender ≡ from
   pub noError : hasError r ≡ false
   pub parity : r .channel .badParity ≡ false
@@ -30,7 +31,9 @@ codes a b = record { a = a; b = b }
 -- a word is stored
 abbrev pub afterWord : Receiver → ℕ → Receiver
 afterWord r word =
-    withShown (withMark (withChannel (withSilo r (put 64 (r .silo) word)) (withWord (r .channel) word false)) false) (codes 2 3)
+    withShown
+    (withChannel (withEnd r (E.counted (E.withSilo (r .end) (put 64 (r .end .silo) word)) word)) (withBadParity (r .channel) false))
+    (codes 2 3)
 
 -- its own CRC is taken, with the code A
 abbrev pub afterCrc : Receiver → ℕ → Receiver
@@ -42,8 +45,7 @@ afterDue r = withShown (restarted r) (codes 2 3)
 
 -- the last CRC is found good
 abbrev pub afterLast : Receiver → Receiver
-afterLast r =
-    closed (requested (withShown (withOutcome r (withSuccess (r .outcome) true)) noCodes))
+afterLast r = closed (requested (withShown (withOutcome r (withSuccess (r .outcome) true)) noCodes))
 
 -- ---- and it listens on
 
@@ -85,12 +87,12 @@ module _ (r : Receiver) (from : ℕ) (l : Listening r from) where
 
 -- closed, and set up to take a whole message
 pub record Ready (r : Receiver) : Type 0 where
-  pub closed : r .channel .opened ≡ false
+  pub closed : r .end .opened ≡ false
   pub noError : hasError r ≡ false
   pub accepting : r .modes .reject ≡ false
   pub receiving : r .commands .receiveData ≡ true
   pub awaiting : r .commands .receiveWord ≡ true
-  pub room : hasRoom 64 (r .silo) ≡ true
+  pub room : hasRoom 64 (r .end .silo) ≡ true
 
 module _ (r : Receiver) (from : ℕ) (ready : Ready r) where
   pub listening-opening : (word : ℕ) → Listening (afterWord (opening r from) word) from

@@ -7,7 +7,3 @@ use Rattle.cells.specs.Layout.{unitPlace}
 -- the header
 pub header-room : (unit n : ℕ) → unitPlace unit + 214 ≤ n → 2 ≤ n
 header-room unit n fits = omega arith
-
--- its block ends where the next one begins
-pub block-room : (unit n : ℕ) → unitPlace unit + 214 ≤ n → unitPlace (unit + 1) ≤ n
-block-room unit n fits = omega arith

@@ -1,14 +1,14 @@
 -- The laws of windows and splices. Those of what stands after a splice go by one: a splice within the first part of a list leaves
 -- the second (`in-first`).
 -- Assumes nothing.
-use mathlib.Core.Path.{_≡_, refl, sym, ap, _∙_}
+use mathlib.Core.Path.{_≡_, sym, ap, _∙_}
 use mathlib.Core.List.{List, [], _∷_, _++_, append-assoc, append-nil}
 use Prim.Native.Nat.{ℕ, zero, suc, _+_, _-_, _≤_, _<_}
 use native.Mathlib.Nat.{zero-add, suc-add}
 use native.Mathlib.Omega.{arith}
 use native.Mathlib.Numerals.{add-one}
 use lib.ListN.{length, getD, set, take, drop, replicate, List·getD-append, length-append, length-take, length-drop, length-replicate, drop-of-length-le, take-append-drop}
-use lib.Seq.{drop-cons, length-take-le, take-nil, take-append-le, drop-append-le, take-append-seam, drop-at, take-at, take-take, take-add, getD-take, getD-drop, getD-append-add, paste-suc}
+use lib.Seq.{length-take-le, take-nil, take-append-le, drop-append-le, take-append-seam, drop-at, take-take, getD-take, getD-drop, getD-append-add, paste-suc}
 use Rattle.codec.specs.Window.{cell, window, splice}
 
 -- ---- a splice and its own window
@@ -28,11 +28,6 @@ window-spliced xs at ys n long fits = rw (← long) (window-splice xs at ys (rw 
 pub length-window : (xs : List ℕ) (at n : ℕ) → at + n ≤ length xs → length (window xs at n) ≡ n
 length-window xs at n fits = simp (length-take, length-drop) (omega arith)
 
--- what was there put back
-pub splice-window : (xs : List ℕ) (at n : ℕ) → at + n ≤ length xs → splice xs at (window xs at n) ≡ xs
-splice-window xs at n fits =
-    rw (length-window xs at n fits, ← take-add at n xs) (take-append-drop (at + n) xs)
-
 -- ---- a splice and what stands after it
 
 -- a splice within the first part of a list leaves the second
@@ -51,28 +46,11 @@ module _ (xs : List ℕ) (at : ℕ) (ys : List ℕ) (b : ℕ) (apart : at + leng
   long = let h : at + length ys ≤ length (take b xs) = simp length-take (omega arith) in
       length-splice (take b xs) at ys h ∙ length-take-le b xs within
 
-  take-after : take b (splice xs at ys) ≡ splice (take b xs) at ys
-  take-after = rw after (take-at (splice (take b xs) at ys) (drop b xs) b long)
-
   drop-after : drop b (splice xs at ys) ≡ drop b xs
   drop-after = rw after (drop-at (splice (take b xs) at ys) (drop b xs) b long)
 
   pub window-after : (n : ℕ) → window (splice xs at ys) b n ≡ window xs b n
   window-after n = ap (take n) drop-after
-
-pub splice-comm : (xs : List ℕ) (at : ℕ) (ys : List ℕ) (b : ℕ) (zs : List ℕ) → at + length ys ≤ b → b + length zs ≤ length xs
-    → splice (splice xs at ys) b zs ≡ splice (splice xs b zs) at ys
-splice-comm xs at ys b zs apart fits =
-    let within : b ≤ length xs = omega arith in
-    let past : at + length ys ≤ b + length zs = omega arith in
-    let h : at + length ys ≤ length (take b xs) = simp length-take (omega arith) in
-    let k : at + length ys ≤ length (take b xs ++ zs) = simp (length-append, length-take) (omega arith) in
-    rw (
-      take-after xs at ys b apart within,
-      drop-after xs at ys (b + length zs) past fits,
-      in-first (take b xs ++ zs) (drop (b + length zs) xs) at ys k,
-      in-first (take b xs) zs at ys h,
-    )
 
 -- ---- a splice and what stands before it
 
@@ -95,17 +73,6 @@ copied xs at w i hx hw =
     let h : 0 + i < length w = omega arith in
     let k : i < length (drop at xs) = simp length-drop (omega arith) in
     rw (add-one, ← getD-drop at xs i 0) (simp zero-add at (paste-suc w 0 (drop at xs) i 0 h k))
-
--- ---- a list by its cells
-
--- the n cells from i on one by one, and then the rest
-abbrev pub from : ℕ → ℕ → List ℕ → List ℕ
-from zero i w = drop i w
-from (suc n) i w = cell w i ∷ from n (suc i) w
-
-pub from-is : (n i : ℕ) (w : List ℕ) → i + n ≤ length w → from n i w ≡ drop i w
-from-is zero i w h = refl
-from-is (suc n) i w h = rw (drop-cons w i 0 (omega arith)) (ap (λ (l : List ℕ). cell w i ∷ l) (from-is n (suc i) w (omega arith)))
 
 -- two lists put one after the other into as many zeros
 pub laid : (n k : ℕ) (a b : List ℕ) → length a ≡ k → k + length b ≡ n → splice (splice (replicate n 0) 0 a) k b ≡ a ++ b

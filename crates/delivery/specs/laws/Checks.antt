@@ -47,8 +47,8 @@ module _ (m : Message) (x : Ends) where
       to d (State.words s 0)
       (due-verdict (x .transmitter) (x .receiver) (m .from) i (o .isEnding) (o .isAwaiting) (d .channel .1) (o .isOwed) (o .isGood))
       (falls n (State.due s) (d .well) .0)
-      (sending-kept (d .sending) _ _ _ _ _ _)
-      (receiving-kept (d .receiving) _ _ _ _ _ _ _ _ _) (
+      (sending-kept (d .sending) _ _ _ _ _ _ _ _ _)
+      (receiving-kept (d .receiving) _ _ _ _ _ _ _ _ _ _ _ _) (
         record {
           inStep = in-step-restarted (x .transmitter) (x .receiver) (m .from) i;
           latched = o .latched;
@@ -75,8 +75,8 @@ module _ (m : Message) (x : Ends) where
       to d State.done
       (last-verdict (x .transmitter) (x .receiver) (m .from) i (o .isEnding) (o .isOwed) (o .isGood) none (o .notTruncated))
       tt
-      (sending-kept (d .sending) _ _ _ _ _ _)
-      (receiving-kept (d .receiving) _ _ _ _ _ _ _ _ _)
+      (sending-kept (d .sending) _ _ _ _ _ _ _ _ _)
+      (receiving-kept (d .receiving) _ _ _ _ _ _ _ _ _ _ _ _)
       (record {
         shut = refl;
         shutThere = refl;
@@ -107,8 +107,8 @@ module _ (m : Message) (x : Ends) where
         to d State.last
         (last-step (x .transmitter) (x .receiver) (m .from) i (o .isEnding) (o .isAwaiting) sent (o .isOwed))
         tt
-        (sending-kept (subst (λ (k : ℕ). Sending m k (x .transmitter)) all (d .sending)) _ _ _ _ _ _)
-        (receiving-kept (subst (λ (k : ℕ). Receiving m k (x .receiver) (x .receiving)) all (d .receiving)) _ _ _ _ _ _ _ _ _)
+        (sending-kept (subst (λ (k : ℕ). Sending m k (x .transmitter)) all (d .sending)) _ _ _ _ _ _ _ _ _)
+        (receiving-kept (subst (λ (k : ℕ). Receiving m k (x .receiver) (x .receiving)) all (d .receiving)) _ _ _ _ _ _ _ _ _ _ _ _)
         (record {
           inStep = in-step-last (x .transmitter) (x .receiver) (m .from) i;
           latched = o .latched;
@@ -132,8 +132,8 @@ module _ (m : Message) (x : Ends) where
           to d (State.due s)
           (due-step (x .transmitter) (x .receiver) (m .from) i (o .isEnding) (o .isAwaiting) notAll (d .channel .1 ∙ full) (o .isOwed))
           more
-          (sending-kept (d .sending) _ _ _ _ _ _)
-          (receiving-kept (d .receiving) _ _ _ _ _ _ _ _ _) (
+          (sending-kept (d .sending) _ _ _ _ _ _ _ _ _)
+          (receiving-kept (d .receiving) _ _ _ _ _ _ _ _ _ _ _ _) (
             record {
               inStep = in-step-due (x .transmitter) (x .receiver) (m .from) i;
               latched = o .latched;

@@ -34,14 +34,14 @@ Holds m memory = (i : ℕ) → i < length (m .rest) → getD memory (m .source +
 
 -- T's silo, and after it what the load has left, are the words to come
 pub record Sending (m : Message) (s : ℕ) (t : Transmitter) : Type 0 where
-  pub sized : Sized 64 (t .silo)
-  pub bounded : Bounded (t .load)
+  pub sized : Sized 64 (t .end .silo)
+  pub bounded : Bounded (t .end .load)
   -- so many words the load has moved since the opening
   pub gone : ℕ
-  pub left : wordsLeft (t .load) + gone ≡ length (m .rest)
-  pub place : t .load .address .0 ≡ (m .source + gone) * 2
-  pub toCome : held (t .silo) ++ drop gone (m .rest) ≡ drop s (m .content)
-  pub requests : 1 ≤ wordsLeft (t .load) → t .modes .memoryRequests ≡ true
+  pub left : wordsLeft (t .end .load) + gone ≡ length (m .rest)
+  pub place : t .end .load .address .0 ≡ (m .source + gone) * 2
+  pub toCome : held (t .end .silo) ++ drop gone (m .rest) ≡ drop s (m .content)
+  pub requests : 1 ≤ wordsLeft (t .end .load) → t .modes .memoryRequests ≡ true
   pub increments : t .modes .inhibitIncrement ≡ false
   pub readSilo : t .modes .readSilo ≡ false
   pub destination : t .modes .destination ≡ m .to
@@ -50,14 +50,14 @@ pub record Sending (m : Message) (s : ℕ) (t : Transmitter) : Type 0 where
 
 -- the receiving memory has the first of the words sent, and is otherwise as at the opening; R's silo has the others
 pub record Receiving (m : Message) (s : ℕ) (r : Receiver) (memory : List ℕ) : Type 0 where
-  pub sized : Sized 64 (r .silo)
-  pub bounded : Bounded (r .load)
+  pub sized : Sized 64 (r .end .silo)
+  pub bounded : Bounded (r .end .load)
   -- so many words are in the memory
   pub stored : ℕ
   pub sent : stored ≤ s
-  pub enough : length (m .content) ≤ wordsLeft (r .load) + stored
-  pub place : r .load .address .0 ≡ (m .target + stored) * 2
-  pub inSilo : held (r .silo) ≡ part stored s (m .content)
+  pub enough : length (m .content) ≤ wordsLeft (r .end .load) + stored
+  pub place : r .end .load .address .0 ≡ (m .target + stored) * 2
+  pub inSilo : held (r .end .silo) ≡ part stored s (m .content)
   pub inMemory : memory ≡ paste (m .before) (m .target) (m .content) stored
   pub requests : r .modes .memoryRequests ≡ true
   pub increments : r .modes .inhibitIncrement ≡ false
@@ -82,17 +82,17 @@ pub record Open (m : Message) (ending awaiting owed : Bool) (t : Transmitter) (r
 
 -- closed with success, and neither end begins a message of its own
 pub record Closed (t : Transmitter) (r : Receiver) : Type 0 where
-  pub shut : t .channel .opened ≡ false
-  pub shutThere : r .channel .opened ≡ false
+  pub shut : t .end .opened ≡ false
+  pub shutThere : r .end .opened ≡ false
   pub success : t .outcome .success ≡ true
   pub successThere : r .outcome .success ≡ true
   pub notSending : t .commands .sendWord ≡ false
   pub notAwaiting : r .commands .receiveWord ≡ false
-  pub siloEmpty : isEmpty (r .silo) ≡ true
+  pub siloEmpty : isEmpty (r .end .silo) ≡ true
 
 abbrev pub Channel : Message → State → Transmitter → Receiver → Type 0
-Channel m (State.words s c) t r = Open m false false false t r × (t .channel .block ≡ c)
-Channel m (State.due s) t r = Open m false true true t r × (t .channel .block ≡ 128)
+Channel m (State.words s c) t r = Open m false false false t r × (t .end .block ≡ c)
+Channel m (State.due s) t r = Open m false true true t r × (t .end .block ≡ 128)
 Channel m State.last t r = Open m true false true t r
 Channel m State.done t r = Closed t r
 

@@ -31,9 +31,9 @@ may-loaded a b c d e f all =
     (start .1, first .1, start .0)
 
 pub loaded-and-room : (t : Transmitter) → mayMove t ≡ true
-    → (t .load .loaded ≡ true) × (hasRoom 64 (t .silo) ≡ true) × (t .modes .memoryRequests ≡ true)
+    → (t .end .load .loaded ≡ true) × (hasRoom 64 (t .end .silo) ≡ true) × (t .modes .memoryRequests ≡ true)
 loaded-and-room t =
-    may-loaded (t .modes .memoryRequests) (t .load .loaded) (not (hasError t)) (hasRoom 64 (t .silo)) (not (t .modes .readSilo))
+    may-loaded (t .modes .memoryRequests) (t .end .load .loaded) (not (hasError t)) (hasRoom 64 (t .end .silo)) (not (t .modes .readSilo))
     (not (t .channel .ending))
 
 answered-4 : (may : Bool) (t : Transmitter) (m : Moved) → m .answer ≡ Move.Done
@@ -42,17 +42,17 @@ answered-4 true t m done e = absurd (let z : _≡_ {A = ℕ} 0 1 = cc in omega a
 answered-4 false t m done e = refl
 
 pub until-4 : (t : Transmitter) (memory : List ℕ) (length : ℕ) → moved t memory length .answer ≡ Move.Nothing → mayMove t ≡ false
-until-4 t memory length e = answered-4 (mayMove t) t (doneWith (movedFrom t memory (placeOf (t .load .address .0) length))) refl e
+until-4 t memory length e = answered-4 (mayMove t) t (doneWith (movedFrom t memory (placeOf (t .end .load .address .0) length))) refl e
 
 -- a move inside the memory, with INH ADI clear, short of byte 777776
 abbrev pub after : Transmitter → List ℕ → Transmitter
-after t memory = gone t (getD memory (t .load .address .0 / 2) 0) (wordMoved (t .load) false)
+after t memory = gone t (getD memory (t .end .load .address .0 / 2) 0) (wordMoved (t .end .load) false)
 
-pub goes : (t : Transmitter) (memory : List ℕ) (length : ℕ) → Bounded (t .load) → t .modes .inhibitIncrement ≡ false
-    → t .load .address .0 / 2 < length → t .load .address .0 < 2 ^ 18 - 2 → mayMove t ≡ true
+pub goes : (t : Transmitter) (memory : List ℕ) (length : ℕ) → Bounded (t .end .load) → t .modes .inhibitIncrement ≡ false
+    → t .end .load .address .0 / 2 < length → t .end .load .address .0 < 2 ^ 18 - 2 → mayMove t ≡ true
     → moved t memory length .side ≡ after t memory
 goes t memory length bounded increments inside short may =
-    rw (may, lt-ltb (t .load .address .0 / 2) length inside, increments, no-overflow (t .load) bounded short)
+    rw (may, lt-ltb (t .end .load .address .0 / 2) length inside, increments, no-overflow (t .end .load) bounded short)
 
 pub stays : (t : Transmitter) (memory : List ℕ) (length : ℕ) → mayMove t ≡ false → moved t memory length .side ≡ t
 stays t memory length e = rw e

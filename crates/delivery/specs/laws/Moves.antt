@@ -88,7 +88,7 @@ receiver-moves m q x d =
     (sym (stores m (sentIn n q) r (x .receiving) k most (d .laid) may))
     (received m q x d _ _ (receiving-stored m (sentIn n q) r (x .receiving) k most (d .laid) may)
     (channel-stored m q (x .transmitter) r may (d .channel))
-    (λ shared. holds-outside m (x .receiving) (rw (d .one shared) at (d .holds)) (m .target + k .stored) (oldest (r .silo))
+    (λ shared. holds-outside m (x .receiving) (rw (d .one shared) at (d .holds)) (m .target + k .stored) (oldest (r .end .silo))
     (λ i h. d .laid .apart shared i (k .stored) h (omega (arith, going m (sentIn n q) r (x .receiving) k most (d .laid) may))))))
     (λ none. subst (λ (v : Moved × List ℕ). Delivering m q (withStored m x (v .0 .side) (v .1)))
     (sym (Storing.stays r (x .receiving) (m .receivingLength) none))
@@ -99,15 +99,15 @@ receiver-moves m q x d =
 module _ (m : Message) where
   -- T's puts a word more into it, and R's takes a word out
   pub one-more : (q : State) (x : Ends) → Delivering m q x → T.mayMove (x .transmitter) ≡ true
-      → transmitterMoved m x .transmitter .silo .held ≡ x .transmitter .silo .held + 1
+      → transmitterMoved m x .transmitter .end .silo .held ≡ x .transmitter .end .silo .held + 1
   one-more q x d may =
-      ap (λ (t : Transmitter). t .silo .held) (loads m (sentIn (length (m .content)) q) (x .transmitter) (d .sending) (d .laid) (x .sending) (d .holds) may)
+      ap (λ (t : Transmitter). t .end .silo .held) (loads m (sentIn (length (m .content)) q) (x .transmitter) (d .sending) (d .laid) (x .sending) (d .holds) may)
       ∙ rw (Loading.loaded-and-room (x .transmitter) may .1)
 
   pub one-fewer : (q : State) (x : Ends) → Delivering m q x → R.mayMove (x .receiver) ≡ true
-      → receiverMoved m x .receiver .silo .held ≡ x .receiver .silo .held - 1
+      → receiverMoved m x .receiver .end .silo .held ≡ x .receiver .end .silo .held - 1
   one-fewer q x d may =
       let n = length (m .content) in
-      ap (λ (v : Moved × List ℕ). v .0 .side .silo .held)
+      ap (λ (v : Moved × List ℕ). v .0 .side .end .silo .held)
       (stores m (sentIn n q) (x .receiver) (x .receiving) (d .receiving) (sent-most n q (d .well)) (d .laid) may)
       ∙ rw (Storing.some-word (x .receiver) may)

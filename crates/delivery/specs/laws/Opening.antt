@@ -62,8 +62,8 @@ module _ (x : Ends) (from sendingLength receivingLength : ℕ) (shared : Bool) (
           room = has-room (x .receiver) (c .siloEmpty);
         }
 
-    some-word : isEmpty (x .transmitter .silo) ≡ false
-    some-word = with-word (x .transmitter .commands .sendWord) (isEmpty (x .transmitter .silo)) _ _ acting
+    some-word : isEmpty (x .transmitter .end .silo) ≡ false
+    some-word = with-word (x .transmitter .commands .sendWord) (isEmpty (x .transmitter .end .silo)) _ _ acting
       where
         with-word : (a b c d : Bool) → (a && not b && c && d) ≡ true → b ≡ false
         with-word a b c d e = not-true b (both a (not b) (both (a && not b) c (both (a && not b && c) d e .0) .0) .1)
@@ -83,11 +83,11 @@ module _ (x : Ends) (from sendingLength receivingLength : ℕ) (shared : Bool) (
           well = omega (arith, c .some);
           holds = Start.holds x from sendingLength receivingLength shared c;
           one = one;
-          sending = sending-kept (sending-word message 0 (x .transmitter) k more some-word) _ _ _ _ _ _;
+          sending = sending-kept (sending-word message 0 (x .transmitter) k more some-word) _ _ _ _ _ _ _ _ _;
           receiving =
               subst (λ (w : ℕ). Receiving message 1 (R.afterWord (listeningTo (x .receiver) from) w) (x .receiving)) (sym word)
               (receiving-word message 0 (listeningTo (x .receiver) from) (x .receiving)
-              (receiving-kept (Start.receiving x from sendingLength receivingLength shared c withinR) _ _ _ _ _ _ _ _ _) more (has-room (x .receiver) (c .siloEmpty)));
+              (receiving-kept (Start.receiving x from sendingLength receivingLength shared c withinR) _ _ _ _ _ _ _ _ _ _ _ _) more (has-room (x .receiver) (c .siloEmpty)));
           channel = (
             record {
               inStep = in-step-opened (x .transmitter) (x .receiver) from sender ready;

@@ -40,7 +40,7 @@ module _ (m : Message) (x : Ends) where
       let c = d .channel in
       let k = d .receiving in
       let n = length (m .content) in
-      let none = eqb-true (x .receiver .silo .held) 0 (c .siloEmpty) in
+      let none = eqb-true (x .receiver .end .silo .held) 0 (c .siloEmpty) in
       let all : k .stored ≡ n = omega (arith, none, to-store m n (x .receiver) (x .receiving) k (omega arith)) in
       record {
         closed = c .shut;

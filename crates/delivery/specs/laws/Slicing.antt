@@ -37,7 +37,7 @@ module _ (m : Message) (x : Ends) (s c : ℕ) (d : Delivering m (State.words s c
       to m x d (State.words (s + 1) (c + 1))
       (word-step (x .transmitter) (x .receiver) (m .from) i (o .isEnding) (o .isAwaiting) notAll (rw (d .channel .1) short) some room)
       (omega arith)
-      (sending-kept (sending-word m s (x .transmitter) k more some) _ _ _ _ _ _)
+      (sending-kept (sending-word m s (x .transmitter) k more some) _ _ _ _ _ _ _ _ _)
       (subst (λ (w : ℕ). Receiving m (s + 1) (afterWord (x .receiver) w) (x .receiving)) (sym word)
       (receiving-word m s (x .receiver) (x .receiving) (d .receiving) more room)) (
         record {

@@ -48,11 +48,11 @@ module _ (x : Ends) (from sendingLength receivingLength : ℕ) (shared : Bool) (
   pub sending : T.Within (x .transmitter) → Sending message 0 (x .transmitter)
   sending within =
       record {
-        sized = within .silo;
-        bounded = within .load;
+        sized = within .end .silo;
+        bounded = within .end .load;
         gone = 0;
         left = omega (arith, rest-length);
-        place = omega (arith, within .load .evenAddress);
+        place = omega (arith, within .end .load .evenAddress);
         toCome = refl;
         requests = c .transmitterRequests;
         increments = c .transmitterIncrements;
@@ -65,13 +65,13 @@ module _ (x : Ends) (from sendingLength receivingLength : ℕ) (shared : Bool) (
   pub receiving : R.Within (x .receiver) → Receiving message 0 (x .receiver) (x .receiving)
   receiving within =
       record {
-        sized = within .silo;
-        bounded = within .load;
+        sized = within .end .silo;
+        bounded = within .end .load;
         stored = 0;
         sent = omega arith;
         enough = omega (arith, c .countGood);
-        place = omega (arith, within .load .evenAddress);
-        inSilo = words-empty 64 (lit≤ tt) (x .receiver .silo) (within .silo) (c .siloEmpty);
+        place = omega (arith, within .end .load .evenAddress);
+        inSilo = words-empty 64 (lit≤ tt) (x .receiver .end .silo) (within .end .silo) (c .siloEmpty);
         inMemory = paste-zero (x .receiving) (message .target) (message .content);
         requests = c .receiverRequests;
         increments = c .receiverIncrements;

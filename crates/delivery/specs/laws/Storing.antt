@@ -24,7 +24,7 @@ use Rattle.delivery.specs.laws.Loading.{both}
 may-some : (a b c : Bool) → (a && b && c) ≡ true → b ≡ true
 may-some a b c all = both a b (both (a && b) c all .0) .1
 
-pub some-word : (r : Receiver) → mayMove r ≡ true → isEmpty (r .silo) ≡ false
+pub some-word : (r : Receiver) → mayMove r ≡ true → isEmpty (r .end .silo) ≡ false
 some-word r e = not-true _ (may-some (r .modes .memoryRequests) (dataOutReady r) (not (hasError r)) e)
 
 answered-4 : (may : Bool) (r : Receiver) (memory : List ℕ) (m : Moved × List ℕ) → m .0 .answer ≡ Move.Done
@@ -38,19 +38,19 @@ done-to r memory Place.Outside = refl
 
 pub until-4 : (r : Receiver) (memory : List ℕ) (length : ℕ) → moved r memory length .0 .answer ≡ Move.Nothing → mayMove r ≡ false
 until-4 r memory length e =
-    let p = placeOf (r .load .address .0) length in
-    answered-4 (mayMove r) r memory (pick (not (r .load .loaded)) (doneWith (exceeded r), memory) (movedTo r memory p))
-    (either (λ (m : Moved × List ℕ). m .0 .answer ≡ Move.Done) (not (r .load .loaded)) (λ f. refl) (λ f. done-to r memory p)) e
+    let p = placeOf (r .end .load .address .0) length in
+    answered-4 (mayMove r) r memory (pick (not (r .end .load .loaded)) (doneWith (exceeded r), memory) (movedTo r memory p))
+    (either (λ (m : Moved × List ℕ). m .0 .answer ≡ Move.Done) (not (r .end .load .loaded)) (λ f. refl) (λ f. done-to r memory p)) e
 
 -- a move of a loaded count inside the memory, with INH ADI clear, short of byte 777776
 abbrev pub after : Receiver → Receiver
-after r = gone r (wordMoved (r .load) false)
+after r = gone r (wordMoved (r .end .load) false)
 
-pub goes : (r : Receiver) (memory : List ℕ) (length : ℕ) → Bounded (r .load) → r .modes .inhibitIncrement ≡ false → r .load .loaded ≡ true
-    → r .load .address .0 / 2 < length → r .load .address .0 < 2 ^ 18 - 2 → mayMove r ≡ true
-    → moved r memory length ≡ (doneWith (after r), set memory (r .load .address .0 / 2) (oldest (r .silo)))
+pub goes : (r : Receiver) (memory : List ℕ) (length : ℕ) → Bounded (r .end .load) → r .modes .inhibitIncrement ≡ false → r .end .load .loaded ≡ true
+    → r .end .load .address .0 / 2 < length → r .end .load .address .0 < 2 ^ 18 - 2 → mayMove r ≡ true
+    → moved r memory length ≡ (doneWith (after r), set memory (r .end .load .address .0 / 2) (oldest (r .end .silo)))
 goes r memory length bounded increments loaded inside short may =
-    rw (may, loaded, lt-ltb (r .load .address .0 / 2) length inside, increments, no-overflow (r .load) bounded short)
+    rw (may, loaded, lt-ltb (r .end .load .address .0 / 2) length inside, increments, no-overflow (r .end .load) bounded short)
 
 pub stays : (r : Receiver) (memory : List ℕ) (length : ℕ) → mayMove r ≡ false
     → moved r memory length ≡ (record { side = r; answer = Move.Nothing }, memory)

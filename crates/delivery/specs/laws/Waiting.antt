@@ -26,38 +26,38 @@ module _ (m : Message) (s : ℕ) (t : Transmitter) (k : Sending m s t) (started 
   pub all-sent : s ≡ length (m .content) → allSent t ≡ true
   all-sent e =
       let none = to-come m s t k (omega arith) in
-      rw (started, eq-eqb (wordsLeft (t .load)) 0 (omega arith), eq-eqb (t .silo .held) 0 (omega arith))
+      rw (started, eq-eqb (wordsLeft (t .end .load)) 0 (omega arith), eq-eqb (t .end .silo .held) 0 (omega arith))
 
   pub not-all-sent : s < length (m .content) → allSent t ≡ false
-  not-all-sent more = rw started (go (eqb (wordsLeft (t .load)) 0) (isEmpty (t .silo)) neither)
+  not-all-sent more = rw started (go (eqb (wordsLeft (t .end .load)) 0) (isEmpty (t .end .silo)) neither)
     where
       go : (a b : Bool) → (a ≡ true → b ≡ true → ⊥) → (a && b) ≡ false
       go true true h = absurd (h refl refl)
       go true false h = refl
       go false b h = refl
 
-      neither : eqb (wordsLeft (t .load)) 0 ≡ true → isEmpty (t .silo) ≡ true → ⊥
-      neither a b = omega (arith, eqb-true (wordsLeft (t .load)) 0 a, eqb-true (t .silo .held) 0 b, to-come m s t k (omega arith))
+      neither : eqb (wordsLeft (t .end .load)) 0 ≡ true → isEmpty (t .end .silo) ≡ true → ⊥
+      neither a b = omega (arith, eqb-true (wordsLeft (t .end .load)) 0 a, eqb-true (t .end .silo .held) 0 b, to-come m s t k (omega arith))
 
   -- T has a word to send: were its silo empty, the load would have a word left and the silo room for it
-  pub word-waits : t .channel .ending ≡ false → T.mayMove t ≡ false → s < length (m .content) → isEmpty (t .silo) ≡ false
+  pub word-waits : t .channel .ending ≡ false → T.mayMove t ≡ false → s < length (m .content) → isEmpty (t .end .silo) ≡ false
   word-waits going stopped more =
-      by (isEmpty (t .silo))
-      (λ none. absurd (let held : t .silo .held ≡ 0 = eqb-true _ _ none in
-      let left : 1 ≤ wordsLeft (t .load) = omega (arith, to-come m s t k (omega arith)) in
+      by (isEmpty (t .end .silo))
+      (λ none. absurd (let held : t .end .silo .held ≡ 0 = eqb-true _ _ none in
+      let left : 1 ≤ wordsLeft (t .end .load) = omega (arith, to-come m s t k (omega arith)) in
       let may : T.mayMove t ≡ true =
-      rw (k .requests left, some-loaded (t .load) (k .bounded) left, k .noError, lt-ltb (t .silo .held) 64 (omega arith), k .readSilo, going) in
+      rw (k .requests left, some-loaded (t .end .load) (k .bounded) left, k .noError, lt-ltb (t .end .silo .held) 64 (omega arith), k .readSilo, going) in
       let z : _≡_ {A = ℕ} 0 1 = cc in
       omega arith))
       (λ some. some)
 
 -- R's silo is empty
-pub silo-emptied : (m : Message) (s : ℕ) (r : Receiver) (memory : List ℕ) → Receiving m s r memory → R.mayMove r ≡ false → isEmpty (r .silo) ≡ true
-silo-emptied m s r memory k stopped = go (isEmpty (r .silo)) (rw (k .requests, k .noError) at stopped)
+pub silo-emptied : (m : Message) (s : ℕ) (r : Receiver) (memory : List ℕ) → Receiving m s r memory → R.mayMove r ≡ false → isEmpty (r .end .silo) ≡ true
+silo-emptied m s r memory k stopped = go (isEmpty (r .end .silo)) (rw (k .requests, k .noError) at stopped)
   where
     go : (b : Bool) → (true && not b && true) ≡ false → b ≡ true
     go true e = refl
     go false e = sym e
 
-pub has-room : (r : Receiver) → isEmpty (r .silo) ≡ true → hasRoom 64 (r .silo) ≡ true
-has-room r none = lt-ltb (r .silo .held) 64 (omega (arith, eqb-true (r .silo .held) 0 none))
+pub has-room : (r : Receiver) → isEmpty (r .end .silo) ≡ true → hasRoom 64 (r .end .silo) ≡ true
+has-room r none = lt-ltb (r .end .silo .held) 64 (omega (arith, eqb-true (r .end .silo .held) 0 none))

@@ -13,20 +13,17 @@ use Rattle.words.specs.declared.codes.Codes.{Codes}
 use Rattle.delivery.specs.Ends.{Message}
 use Rattle.delivery.specs.laws.Invariant.{Receiving, Sending}
 
-pub sending-kept : {m : Message} {s : ℕ} {t : Transmitter} → Sending m s t → (shown : Codes) (commands : TC.Commands) (busy success mark : Bool)
-    (channel : T.Channel) → Sending m s
+pub sending-kept : {m : Message} {s : ℕ} {t : Transmitter} → Sending m s t → (shown : Codes) (opened : Bool) (block crc : ℕ) (mark : Bool)
+    (commands : TC.Commands) (busy success : Bool) (channel : T.Channel) → Sending m s
     (record {
-      silo = t .silo;
-      load = t .load;
-      shown = shown;
+      end = record { silo = t .end .silo; load = t .end .load; shown = shown; opened = opened; block = block; crc = crc; mark = mark };
       commands = commands;
       modes = t .modes;
       faults = t .faults;
       outcome = record { busBusy = busy; softwareReject = t .outcome .softwareReject; success = success };
       channel = channel;
-      mark = mark;
     })
-sending-kept k shown commands busy success mark channel =
+sending-kept k shown opened block crc mark commands busy success channel =
     record {
       sized = k .sized;
       bounded = k .bounded;
@@ -42,12 +39,10 @@ sending-kept k shown commands busy success mark channel =
       noReject = k .noReject;
     }
 
-pub receiving-kept : {m : Message} {s : ℕ} {r : Receiver} {memory : List ℕ} → Receiving m s r memory → (shown : Codes) (commands : RC.Commands)
-    (enabled load reject success mark : Bool) (sender : ℕ) (channel : R.Channel) → Receiving m s
+pub receiving-kept : {m : Message} {s : ℕ} {r : Receiver} {memory : List ℕ} → Receiving m s r memory → (shown : Codes) (opened : Bool)
+    (block crc : ℕ) (mark : Bool) (commands : RC.Commands) (enabled load reject success : Bool) (sender : ℕ) (channel : R.Channel) → Receiving m s
     (record {
-      silo = r .silo;
-      load = r .load;
-      shown = shown;
+      end = record { silo = r .end .silo; load = r .end .load; shown = shown; opened = opened; block = block; crc = crc; mark = mark };
       commands = commands;
       modes =
           record {
@@ -61,9 +56,8 @@ pub receiving-kept : {m : Message} {s : ℕ} {r : Receiver} {memory : List ℕ} 
       faults = r .faults;
       outcome = record { rejectComplete = r .outcome .rejectComplete; success = success };
       channel = channel;
-      mark = mark;
     }) memory
-receiving-kept k shown commands enabled load reject success mark sender channel =
+receiving-kept k shown opened block crc mark commands enabled load reject success sender channel =
     record {
       sized = k .sized;
       bounded = k .bounded;

@@ -3,15 +3,15 @@
 use mathlib.Core.Bool.{Bool, true, false, not, _&&_, true≢false}
 use mathlib.Core.List.{List}
 use mathlib.Core.Logic.{⊎-elim}
-use mathlib.Core.Path.{_≡_, refl, sym, _∙_}
-use Prim.Native.Nat.{ℕ, zero, suc, _*_, _+_, _/_, _%_, _≤_, _<_}
+use mathlib.Core.Path.{_≡_, refl, sym}
+use Prim.Native.Nat.{ℕ, zero, suc, _%_, _≤_, _<_}
 use native.Mathlib.Nat.{le-of-suc-le-suc, not-suc-le-zero, eq-or-lt-of-le}
 use native.Mathlib.Omega.{arith}
-use borrow.Author.Tests.{leb-true, eqb-true, eqb-false, not-true, not-false}
-use lib.Dec.{leb, eqb}
+use borrow.Author.Tests.{leb-true, eqb-true, eqb-false, not-false}
+use lib.Dec.{leb}
 use lib.ListN.{length}
-use Rattle.codec.specs.laws.LimitLaws.{left-of, right-of}
 use Rattle.laws.specs.Pick.{pick}
+use Rattle.laws.specs.laws.Both.{left-of, right-of}
 use Rattle.fitting.specs.SetUp.{between, numberOf, unitGood, again, unitsGood, countOf, setUpGood}
 
 -- one unit's numbers

@@ -6,10 +6,10 @@ use mathlib.Core.Path.{_≡_, refl, _∙_}
 use Prim.Native.Nat.{ℕ, zero, suc, _+_, _≤_}
 use native.Mathlib.Omega.{arith}
 use lib.ListN.{length}
-use Rattle.cells.specs.laws.FitLaws.{unit-within, unit-fitted, fit-in-range}
+use Rattle.cells.specs.laws.FitLaws.{fit-in-range}
 use Rattle.cells.specs.Fitted.{putTransmitter, putReceiver}
 use Rattle.cells.specs.Layout.{unitPlace, transmitterPlace, receiverPlace, masterPlace, encUnit}
-use Rattle.cells.specs.Ranges.{unitsInRange, inRange}
+use Rattle.cells.specs.Ranges.{inRange}
 use Rattle.codec.specs.laws.MasterLaws.{length-master}
 use Rattle.codec.specs.Masters.{encMaster}
 use Rattle.codec.specs.laws.ReceiverLaws.{length-receiver}
@@ -41,7 +41,7 @@ receiverPut setup cells unit = putReceiver (transmitterPut setup cells unit) uni
 
 module _ (setup cells : List ℕ) (unit : ℕ) (good : UnitGood setup unit) (room : unitPlace unit + 214 ≤ length cells) where
   pub master-within : M.Within (M.initial (numberOf setup unit 2))
-  master-within = let s = good .switch .1 in ML.within-initial (numberOf setup unit 2) (omega arith)
+  master-within = ML.within-initial (numberOf setup unit 2) (good .switch .0) (omega (arith, good .switch .1))
 
   -- each has its room
   pub own-fits : unitPlace unit + 4 ≤ length cells
@@ -68,16 +68,6 @@ module _ (setup cells : List ℕ) (unit : ℕ) (good : UnitGood setup unit) (roo
   one-length : length (unitOf setup cells unit) ≡ length cells
   one-length = length-splice (receiverPut setup cells unit) (masterPlace unit) (encMaster (M.initial (numberOf setup unit 2))) master-fits ∙ receiver-length
 
-  one-more : unitsInRange unit cells ≡ true → unitsInRange (suc unit) (unitOf setup cells unit) ≡ true
-  one-more =
-      let t = good .transmitter in
-      let r = good .receiver in
-      let m = good .memory in
-      let s = good .switch .0 in
-      unit-fitted cells unit room (encUnit (numberOf setup unit 0) (numberOf setup unit 1) (numberOf setup unit 3)) refl
-      (unit-within (numberOf setup unit 0) (numberOf setup unit 1) (numberOf setup unit 3) (t .0) (r .0) (m .0) (t .1) (r .1) (m .1)) T.initial R.initial
-      (M.initial (numberOf setup unit 2)) TK.within-initial RK.within-initial master-within (ML.counting-initial (numberOf setup unit 2) (omega arith))
-
 -- ---- all of them, and the header
 module _ (setup cells : List ℕ) (ok : setUpGood setup ≡ true) (room : unitPlace (countOf setup) ≤ length cells) where
   pub fitted-length : (n : ℕ) → n ≤ countOf setup → length (unitsFitted n setup cells) ≡ length cells
@@ -87,15 +77,8 @@ module _ (setup cells : List ℕ) (ok : setUpGood setup ≡ true) (room : unitPl
       let before : length (unitsFitted n setup cells) ≡ length cells = fitted-length n (omega arith) in
       one-length setup (unitsFitted n setup cells) n (good-says setup ok .units n h) (omega arith) ∙ before
 
-  fitted-range : (n : ℕ) → n ≤ countOf setup → unitsInRange n (unitsFitted n setup cells) ≡ true
-  unfolding unitsFitted unitsInRange
-  fitted-range zero h = refl
-  fitted-range (suc n) h =
-      let before : length (unitsFitted n setup cells) ≡ length cells = fitted-length n (omega arith) in
-      one-more setup (unitsFitted n setup cells) n (good-says setup ok .units n h) (omega arith) (fitted-range n (omega arith))
-
   pub fit-ranged : inRange (fit cells setup) ≡ true
   fit-ranged =
       let count = countOf setup in
       let l : length (unitsFitted count setup cells) ≡ length cells = fitted-length count (omega arith) in
-      fit-in-range (unitsFitted count setup cells) count (good-says setup ok .most) (omega arith) (fitted-range count (omega arith))
+      fit-in-range (unitsFitted count setup cells) count (good-says setup ok .most) (omega arith)

@@ -1,29 +1,20 @@
--- "Fit gives every side its initial state": what a fit of a good set-up leaves, whatever the lent cells held before. They are whole.
+-- "Fit gives every side its initial state": what a fit of a good set-up leaves, whatever the lent cells held before.
 -- Assumes nothing.
 use mathlib.Core.Bool.{true}
 use mathlib.Core.List.{List, [], _∷_}
 use mathlib.Core.Logic.{⊎-elim}
-use mathlib.Core.Path.{_≡_, subst, subst⁻¹, _∙_}
+use mathlib.Core.Path.{_≡_, _∙_}
 use Prim.Native.Nat.{ℕ, zero, suc, _+_, _≤_, _<_}
 use native.Mathlib.Nat.{le-of-suc-le-suc, not-suc-le-zero, eq-or-lt-of-le}
 use native.Mathlib.Omega.{arith}
 use lib.ListN.{length}
 use Rattle.cells.specs.Layout.{countIn, holderIn, unitPlace}
-use Rattle.cells.specs.laws.SideLaws.{block-fits}
 use Rattle.codec.specs.laws.WindowLaws.{length-splice, cell-inside}
 use Rattle.fitting.specs.Fit.{unitsFitted, fit}
 use Rattle.fitting.specs.SetUp.{numberOf, countOf, setUpGood}
 use Rattle.fitting.specs.laws.SetUpLaws.{Good, good-says}
-use Rattle.master.specs.laws.Laws.{within-initial, counting-initial}
-use Rattle.master.specs.Side.{Counting}
-use Rattle.master.specs.Side as M
-use Rattle.receiver.specs.laws.Keeps as RK
-use Rattle.receiver.specs.Side as R
-use Rattle.transmitter.specs.laws.Keeps as TK
-use Rattle.transmitter.specs.Side as T
-use Rattle.frames.specs.laws.Fits.{fitted-length, fit-ranged}
+use Rattle.frames.specs.laws.Fits.{fitted-length}
 use Rattle.frames.specs.laws.Started.{Started, block-past, started-again, before-own, started}
-use Rattle.frames.specs.laws.Whole.{Whole}
 
 module _ (setup cells : List ℕ) (ok : setUpGood setup ≡ true) (room : unitPlace (countOf setup) ≤ length cells) where
   good : Good setup
@@ -62,25 +53,3 @@ module _ (setup cells : List ℕ) (ok : setUpGood setup ≡ true) (room : unitPl
       started-again
       (block-past (unitsFitted (countOf setup) setup cells) 0 (countOf setup ∷ 0 ∷ []) header-fits k (omega arith) (omega (arith, units-length)))
       (each-started (countOf setup) (omega arith) k below)
-
-  -- so the cells are whole
-  pub fit-whole : Whole (fit cells setup)
-  fit-whole =
-      record {
-        ranged = fit-ranged setup cells ok room;
-        units = λ k here.
-            let there : k < countOf setup = subst (λ (n : ℕ). k < n) fit-count here in
-            let s = fit-started k there in
-            let switch = good .units k there .switch in
-            let least = switch .0 in
-            let most = switch .1 in
-            let few = good .most in
-            record {
-              number = omega arith;
-              room = block-fits (fit cells setup) (fit-ranged setup cells ok room) k here;
-              transmitter = subst⁻¹ T.Within (s .transmitter) TK.within-initial;
-              receiver = subst⁻¹ R.Within (s .receiver) RK.within-initial;
-              master = subst⁻¹ M.Within (s .master) (within-initial (numberOf setup k 2) (omega arith));
-              counting = subst⁻¹ Counting (s .master) (counting-initial (numberOf setup k 2) (omega arith));
-            };
-      }

@@ -9,8 +9,9 @@ use native.Mathlib.Omega.{arith}
 use Rattle.answering.specs.Choice.{openWithAnother}
 use Rattle.bus.specs.Slice.{slicePassed}
 use Rattle.cells.specs.Fitted.{transmitterOf, receiverOf, masterOf}
+use Rattle.cells.specs.Ranges.{inRange}
 use Rattle.cells.specs.Layout.{countIn, holderIn, transmitterAddress, receiverAddress}
-use Rattle.cells.specs.Search.{fitted}
+use Rattle.cells.specs.laws.SearchLaws.{fitted}
 use Rattle.master.specs.Section.{nextOf}
 use Rattle.sending.specs.Choice.{destinationOf}
 use Rattle.slices.specs.laws.Keeps.{another}
@@ -19,11 +20,10 @@ use Rattle.frames.specs.laws.Leaves.{Holds}
 use Rattle.frames.specs.laws.Serving.{unitFor, receiverFor, heardOn, servedOn, in-each}
 use Rattle.frames.specs.laws.Sides.{Sides, replaced, replaced-here, replaced-other, replaced-same}
 use Rattle.frames.specs.laws.Slices.{nextOn, nextAddress, slice-passes, slice-heard}
-use Rattle.frames.specs.laws.Whole.{Whole}
 
-module _ (cells : List ℕ) (w : Whole cells) (mask : ℕ) (parity : Bool) (m : ℕ) (held : holderIn cells ≡ m + 1) where
+module _ (cells : List ℕ) (ok : inRange cells ≡ true) (mask : ℕ) (parity : Bool) (m : ℕ) (held : holderIn cells ≡ m + 1) where
   holds : Holds (slicePassed cells mask parity .1) (countIn cells) (servedOn cells (nextOn cells m) (nextAddress cells m) mask parity .1)
-  holds = slice-passes cells w mask parity m held .leaves .holds
+  holds = slice-passes cells ok mask parity m held .leaves .holds
 
   pub slice-holder : holderIn (slicePassed cells mask parity .1) ≡ holderIn cells
   slice-holder =
@@ -76,7 +76,7 @@ module _ (cells : List ℕ) (w : Whole cells) (mask : ℕ) (parity : Bool) (m : 
         omega (arith, fitted (receiverAddress cells) (destinationOf (transmitterOf cells unit)) (countIn cells) 0 (subst⁻¹ (λ (n : ℕ). n < 16) heard near))
 
     ends : Holds (slicePassed cells mask parity .1) (countIn cells) (heardOn (nextOn cells m) unit other (nextAddress cells m) mask parity .1)
-    ends = slice-heard cells w mask parity m held unit found there other heard near .leaves .holds
+    ends = slice-heard cells ok mask parity m held unit found there other heard near .leaves .holds
 
     pub slice-transmitter : transmitterOf (slicePassed cells mask parity .1) unit
         ≡ exchanged (transmitterOf cells unit) (receiverOf cells other) (nextAddress cells m) mask parity .transmitter

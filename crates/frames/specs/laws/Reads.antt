@@ -1,6 +1,6 @@
 -- A word read at a fitted unit: it may remove a word of a data silo or an address, and every other side is as it was.
 -- Assumes nothing.
-use mathlib.Core.Bool.{Bool, true, false, _&&_, true≢false}
+use mathlib.Core.Bool.{Bool, true, false, not, _&&_, true≢false}
 use mathlib.Core.List.{List}
 use mathlib.Core.Path.{_≡_, refl, sym, subst⁻¹, _∙_}
 use Prim.Native.Nat.{ℕ, _<_}
@@ -8,26 +8,26 @@ use borrow.Author.Tests.{eqb-true}
 use lib.Dec.{eqb, ltb}
 use Rattle.accesses.specs.Reading.{unitRead}
 use Rattle.cells.specs.Fitted.{transmitterOf, receiverOf, masterOf}
+use Rattle.cells.specs.Ranges.{inRange}
 use Rattle.cells.specs.Layout.{countIn, holderIn}
-use Rattle.laws.specs.Pick.{pick, either}
-use Rattle.master.specs.laws.Laws.{within-removed, counting-removed}
-use Rattle.master.specs.Reading.{removed}
-use Rattle.master.specs.laws.RingLaws.{true-both}
+use Rattle.laws.specs.Pick.{pick, past, either}
+use Rattle.laws.specs.laws.Both.{left-of, right-of}
+use Rattle.master.specs.laws.Laws.{within-removed}
+use Rattle.master.specs.Reading.{removes, removed}
 use Rattle.master.specs.declared.side.Master.{Master}
 use Rattle.receiver.specs.declared.side.Receiver.{Receiver}
 use Rattle.receiver_registers.specs.laws.Keeps as RK
+use Rattle.receiver_registers.specs.laws.Stays as RS
 use Rattle.receiver_registers.specs.Reading as R
-use Rattle.receiver_registers.specs.declared.registers.Reading as RD
 use Rattle.silos.specs.Silo.{isEmpty}
 use Rattle.transmitter.specs.declared.side.Transmitter.{Transmitter}
 use Rattle.transmitter_registers.specs.laws.Keeps as TK
+use Rattle.transmitter_registers.specs.laws.Stays as TS
 use Rattle.transmitter_registers.specs.Reading as T
-use Rattle.transmitter_registers.specs.declared.registers.Reading as TD
 use Rattle.words.specs.declared.answers.Read.{Read}
-use Rattle.frames.specs.laws.Leaves.{Leaves, stays, alike}
+use Rattle.frames.specs.laws.Leaves.{Leaves, At, stays-at, transmitter-within, receiver-within, master-within, alike}
 use Rattle.frames.specs.laws.Sides.{Sides, sidesOf, replaced-same, withTransmitter, withReceiver, withMaster}
-use Rattle.frames.specs.laws.Stores.{transmitter-stored, receiver-stored, master-stored}
-use Rattle.frames.specs.laws.Whole.{Whole}
+use Rattle.frames.specs.laws.Stores.{transmitter-stored, receiver-stored, master-stored, transmitter-left, receiver-left, master-left}
 
 -- a read on the sides, as `accesses` has it on the cells
 abbrev pub readOn : Sides → ℕ → ℕ → Sides
@@ -40,25 +40,13 @@ readOn s unit offset =
 
 -- TSDB: "removing it only with RD SILO set"
 pub transmitter-shown : (t : Transmitter) (offset : ℕ) → (offset ≡ 4 → t .modes .readSilo ≡ false) → T.readOf t offset .side ≡ t
-transmitter-shown t offset clear =
-    let P : TD.Reading → Type 0 = λ r. r .side ≡ t in
-    either P (eqb offset 4)
-    (λ e. either P (isEmpty (t .silo)) (λ none. refl)
-    (λ some. either P (t .modes .readSilo) (λ set. absurd (true≢false (sym set ∙ clear (eqb-true offset 4 e)))) (λ unset. refl))) (λ e. refl)
+transmitter-shown t offset clear = TS.read-stays t offset (TS.not-removing t offset clear)
 
 -- RDDB: "removing it unless RC NPR is set"
 pub receiver-shown : (r : Receiver) (offset : ℕ) → (offset ≡ 20 → r .modes .memoryRequests ≡ true) → R.readOf r offset .side ≡ r
-receiver-shown r offset requests =
-    let P : RD.Reading → Type 0 = λ x. x .side ≡ r in
-    either P (eqb offset 20)
-    (λ e. either P (isEmpty (r .silo)) (λ none. refl)
-    (λ some. either P (r .modes .memoryRequests) (λ set. refl) (λ unset. absurd (true≢false (sym (requests (eqb-true offset 20 e)) ∙ unset))))) (λ e. refl)
+receiver-shown r offset requests = RS.read-stays r offset (RS.not-removing r offset requests)
 
--- TMMR: "removing it only with RD SILO and AUT ADR set"
-pub master-shown : (m : Master) (reading : Bool) → reading && m .autoAddress ≡ false → removed m reading ≡ m
-master-shown m reading clear = rw clear
-
--- in any case it gives the addresses of its slices from the same place on
+-- TMMR: in any case it gives the addresses of its slices from the same place on
 pub record SameCycle (before after : Master) : Type 0 where
   pub autoAddress : after .autoAddress ≡ before .autoAddress
   pub secondary : after .secondary ≡ before .secondary
@@ -72,7 +60,7 @@ same-cycle m = record { autoAddress = refl; secondary = refl; nowMaster = refl; 
 
 removed-cycle : (m : Master) (reading : Bool) → SameCycle m (removed m reading)
 removed-cycle m reading =
-    either (SameCycle m) (reading && m .autoAddress)
+    either (SameCycle m) (removes m reading)
     (λ e.
     record {
       autoAddress = refl;
@@ -80,24 +68,32 @@ removed-cycle m reading =
       nowMaster = refl;
       place = refl;
       switch = refl;
-      addresses = λ clear. absurd (true≢false (sym (true-both reading (m .autoAddress) e .1) ∙ clear));
+      addresses = λ clear. absurd (true≢false (sym (right-of reading (m .autoAddress) (left-of (reading && m .autoAddress) (not (isEmpty (m .addresses))) e)) ∙ clear));
     })
     (λ e. same-cycle m)
 
 -- ---- the read
 
-module _ (cells : List ℕ) (w : Whole cells) (unit : ℕ) (fitted : unit < countIn cells) (offset : ℕ) where
-  pub read-leaves : Leaves cells (unitRead cells unit offset .1) (readOn (sidesOf cells) unit offset)
+module _ (cells : List ℕ) (ok : inRange cells ≡ true) (unit : ℕ) (fitted : unit < countIn cells) (offset : ℕ) where
+  pub read-leaves : Leaves (At unit) cells (unitRead cells unit offset .1) (readOn (sidesOf cells) unit offset)
   read-leaves =
-      let u = w .units unit fitted in
+      let l = stays-at (At unit) ok in
       let t = transmitterOf cells unit in
       let r = receiverOf cells unit in
       let m = masterOf cells unit in
-      let P : Read × List ℕ → Sides → Type 0 = λ p s. Leaves cells (p .1) s in
+      let reading = t .modes .readSilo in
+      let P : Read × List ℕ → Sides → Type 0 = λ p s. Leaves (At unit) cells (p .1) s in
       alike P (eqb offset 10)
-      (λ e. master-stored (stays w) unit fitted (removed m (t .modes .readSilo)) (within-removed m (u .master) (t .modes .readSilo)) (counting-removed m (u .counting) (t .modes .readSilo)))
-      (λ e. alike P (ltb offset 16) (λ e. transmitter-stored (stays w) unit fitted (T.readOf t offset .side) (TK.within-read t (u .transmitter) offset))
-      (λ e. receiver-stored (stays w) unit fitted (R.readOf r offset .side) (RK.within-read r (u .receiver) offset)))
+      (λ e. either (λ p. P p (withMaster (sidesOf cells) unit (removed m reading))) (removes m reading)
+      (λ some. master-stored l unit fitted refl (removed m reading) (within-removed m (master-within l unit fitted) reading))
+      (λ none. master-left l unit fitted (removed m reading) (sym (past _ none refl))))
+      (λ e. alike P (ltb offset 16)
+      (λ e. either (λ p. P p (withTransmitter (sidesOf cells) unit (T.readOf t offset .side))) (T.removes t offset)
+      (λ some. transmitter-stored l unit fitted refl (T.readOf t offset .side) (TK.within-read t (transmitter-within l unit fitted) offset))
+      (λ none. transmitter-left l unit fitted (T.readOf t offset .side) (TS.read-stays t offset none)))
+      (λ e. either (λ p. P p (withReceiver (sidesOf cells) unit (R.readOf r offset .side))) (R.removes r offset)
+      (λ some. receiver-stored l unit fitted refl (R.readOf r offset .side) (RK.within-read r (receiver-within l unit fitted) offset))
+      (λ none. receiver-left l unit fitted (R.readOf r offset .side) (RS.read-stays r offset none))))
 
   pub read-holder : holderIn (unitRead cells unit offset .1) ≡ holderIn cells
   read-holder =
@@ -120,16 +116,6 @@ module _ (cells : List ℕ) (w : Whole cells) (unit : ℕ) (fitted : unit < coun
         ∙ either P (eqb offset 10) (λ e. refl)
         (λ e. either P (ltb offset 16) (λ e. refl)
         (λ e. replaced-same (receiverOf cells) unit _ k (λ here. receiver-shown (receiverOf cells unit) offset (requests here))))
-
-    pub read-master : (k ≡ unit → offset ≡ 10 → transmitterOf cells unit .modes .readSilo && masterOf cells unit .autoAddress ≡ false)
-        → masterOf (unitRead cells unit offset .1) k ≡ masterOf cells k
-    read-master clear =
-        let P : Sides → Type 0 = λ s. s .master k ≡ masterOf cells k in
-        read-leaves .holds .master k there
-        ∙ either P (eqb offset 10)
-        (λ e. replaced-same (masterOf cells) unit _ k
-        (λ here. master-shown (masterOf cells unit) (transmitterOf cells unit .modes .readSilo) (clear here (eqb-true offset 10 e))))
-        (λ e. either P (ltb offset 16) (λ e. refl) (λ e. refl))
 
     pub read-cycle : SameCycle (masterOf cells k) (masterOf (unitRead cells unit offset .1) k)
     read-cycle =

@@ -1,31 +1,34 @@
 -- The slice of an address: it is of the transmitter and the receiver found, and every other side is as it was.
 -- Assumes nothing.
-use mathlib.Core.Bool.{Bool}
+use mathlib.Core.Bool.{Bool, false}
 use mathlib.Core.List.{List}
-use mathlib.Core.Path.{_≡_, refl, ap, ap₂, subst⁻¹, _∙_}
+use mathlib.Core.Path.{_≡_, refl, ap, subst⁻¹, _∙_}
 use Prim.Native.Nat.{ℕ, _<_}
 use native.Mathlib.Omega.{arith}
 use borrow.Author.Tests.{ltb-true}
 use lib.Dec.{ltb}
+use Rattle.answering.specs.Choice.{openWithAnother}
 use Rattle.bus.specs.Slice as B
 use Rattle.bus.specs.declared.slice.Given.{Given}
 use Rattle.cells.specs.Fitted.{transmitterOf}
 use Rattle.cells.specs.laws.FrameLaws.{transmitter-found-kept, receiver-found-kept}
 use Rattle.cells.specs.Layout.{countIn, transmitterAddress, receiverAddress}
-use Rattle.cells.specs.Search.{firstTransmitter, firstReceiver, fitted}
+use Rattle.cells.specs.Search.{firstTransmitter, firstReceiver}
+use Rattle.cells.specs.laws.SearchLaws.{fitted}
 use Rattle.laws.specs.Pick.{pick, either}
-use Rattle.sending.specs.Choice.{destinationOf}
-use Rattle.slices.specs.laws.Keeps.{within-transmitter, within-receiver, within-alone}
+use Rattle.receiver.specs.declared.side.Receiver.{Receiver}
+use Rattle.sending.specs.Choice.{actsOn, chosen, destinationOf}
+use Rattle.slices.specs.laws.Keeps.{idle-pair, idle-alone, as-alone, within-transmitter, within-receiver, within-alone}
 use Rattle.slices.specs.Slice.{exchanged, sentAlone}
 use Rattle.slices.specs.declared.Alone.{Alone}
 use Rattle.slices.specs.declared.Pair.{Pair}
 use Rattle.transmitter.specs.declared.side.Transmitter.{Transmitter}
 use Rattle.words.specs.Codes.{noCodes}
 use Rattle.words.specs.declared.codes.Codes.{Codes}
-use Rattle.frames.specs.laws.Leaves.{Leaves, alike}
+use Rattle.frames.specs.laws.Leaves.{Leaves, Anywhere, transmitter-within, receiver-within, alike}
 use Rattle.frames.specs.laws.Sides.{Sides, withTransmitter, withReceiver}
-use Rattle.frames.specs.laws.Stores.{transmitter-stored, receiver-stored}
-use Rattle.frames.specs.laws.Whole.{Kept}
+use Rattle.frames.specs.laws.Stores.{transmitter-stored, receiver-stored, transmitter-left, receiver-left}
+use Rattle.frames.specs.laws.Kept.{Kept}
 
 -- ---- the units found, by the addresses in the cells: the same after as before where these are kept
 
@@ -86,38 +89,68 @@ module _ (cells : List ℕ) (s : Sides) (from mask : ℕ) (parity : Bool) (P : S
 
 pub record Serves (cells : List ℕ) (p : Given × List ℕ) (from : ℕ) (q : Codes × Sides) : Type 0 where
   pub answer : p .0 ≡ record { address = from; codes = q .0 }
-  pub leaves : Leaves cells (p .1) (q .1)
+  pub leaves : Leaves Anywhere cells (p .1) (q .1)
 
-module _ {cells middle : List ℕ} {s : Sides} (l : Leaves cells middle s) (from : ℕ) (address : from < 32) (mask : ℕ) (parity : Bool) where
+module _ {cells middle : List ℕ} {s : Sides} (l : Leaves Anywhere cells middle s) (from : ℕ) (address : from < 32) (mask : ℕ) (parity : Bool) where
   module _ (unit : ℕ) (fits : unit < countIn cells) where
     same : transmitterOf middle unit ≡ s .transmitter unit
     same = l .holds .transmitter unit fits
 
-    heard : (other : ℕ) → other < countIn cells → Serves cells (B.given from (B.heardBy middle unit other from mask parity)) from (heardOn s unit other from mask parity)
-    heard other there =
-        let p = exchanged (s .transmitter unit) (s .receiver other) from mask parity in
-        let t = within-transmitter (s .transmitter unit) (s .receiver other) from mask parity (l .sound .transmitter unit fits) in
-        let r = within-receiver (s .transmitter unit) (s .receiver other) from mask parity (l .sound .receiver other there) address in
-        subst⁻¹ (λ (p : Pair). Serves cells (B.given from (B.putPair middle unit other p)) from (heardOn s unit other from mask parity))
-        (ap₂ (λ x y. exchanged x y from mask parity) same (l .holds .receiver other there))
-        (record { answer = refl; leaves = receiver-stored (transmitter-stored l unit fits (p .transmitter) t) other there (p .receiver) r })
-
     unheard : Serves cells (B.given from (B.unheard middle unit)) from (unheardOn s unit)
     unheard =
-        let t = within-alone (s .transmitter unit) (l .sound .transmitter unit fits) in
+        let t = within-alone (s .transmitter unit) (transmitter-within l unit fits) in
         subst⁻¹ (λ (x : Transmitter). Serves cells (B.given from (B.putAlone middle unit (sentAlone x))) from (unheardOn s unit)) same
-        (record { answer = refl; leaves = transmitter-stored l unit fits (sentAlone (s .transmitter unit) .transmitter) t })
+        (record { answer = refl; leaves = transmitter-stored l unit fits tt (sentAlone (s .transmitter unit) .transmitter) t })
+
+    heard : (other : ℕ) → other < countIn cells → Serves cells (B.given from (B.heardBy middle unit other from mask parity)) from (heardOn s unit other from mask parity)
+    heard other there =
+        let t = s .transmitter unit in
+        let r = s .receiver other in
+        let p = exchanged t r from mask parity in
+        let Q : Codes × List ℕ → Type 0 = λ x. Serves cells (B.given from x) from (heardOn s unit other from mask parity) in
+        subst⁻¹ (λ (x : Receiver). Q (pick (openWithAnother x from) (B.unheard middle unit) (B.putPair middle unit other (exchanged (transmitterOf middle unit) x from mask parity))))
+        (l .holds .receiver other there)
+        (either Q (openWithAnother r from)
+        (λ another.
+        let alone = unheard in
+        subst⁻¹ (λ (x : Pair). Serves cells (B.given from (B.unheard middle unit)) from (pairOn s unit other x)) (as-alone t r from mask parity another)
+        (record { answer = alone .answer; leaves = receiver-left (alone .leaves) other there r refl }))
+        (λ e.
+        subst⁻¹ (λ (x : Transmitter). Q (B.putPair middle unit other (exchanged x r from mask parity))) same
+        (record {
+          answer = refl;
+          leaves =
+              receiver-stored (transmitter-stored l unit fits tt (p .transmitter) (within-transmitter t r from mask parity (transmitter-within l unit fits))) other there tt
+              (p .receiver) (within-receiver t r from mask parity (receiver-within l other there) address);
+        })))
+
+    -- one that does not act: nothing is put back
+    idle : (other : ℕ) → (other < 16 → other < countIn cells) → actsOn (chosen (s .transmitter unit)) ≡ false
+        → Serves cells (B.given from (noCodes, middle)) from (sliceBy s unit other from mask parity)
+    idle other found e =
+        let t = s .transmitter unit in
+        let Q : Codes × Sides → Type 0 = Serves cells (B.given from (noCodes, middle)) from in
+        either Q (ltb other 16)
+        (λ near. subst⁻¹ (λ (x : Pair). Q (pairOn s unit other x)) (idle-pair t (s .receiver other) from mask parity e)
+        (record { answer = refl; leaves = receiver-left (transmitter-left l unit fits t refl) other (found (ltb-true other 16 near)) (s .receiver other) refl }))
+        (λ none. subst⁻¹ (λ (x : Alone). Q (aloneOn s unit x)) (idle-alone t e) (record { answer = refl; leaves = transmitter-left l unit fits t refl }))
 
     other-found : receiverFor middle (transmitterOf middle unit) ≡ receiverFor cells (s .transmitter unit)
     other-found = receiver-for-kept (l .kept) (transmitterOf middle unit) ∙ ap (receiverFor cells) same
 
     slice : Serves cells (B.given from (B.sliceOf middle unit from mask parity)) from (sliceOn cells s unit from mask parity)
     slice =
-        let other = receiverFor cells (s .transmitter unit) in
-        subst⁻¹ (λ (n : ℕ). Serves cells (B.given from (B.heardOr middle unit n from mask parity)) from (sliceOn cells s unit from mask parity)) other-found
-        (alike (λ (p : Codes × List ℕ) (q : Codes × Sides). Serves cells (B.given from p) from q) (ltb other 16)
-        (λ e. heard other (omega (arith, fitted (receiverAddress cells) (destinationOf (s .transmitter unit)) (countIn cells) 0 (ltb-true other 16 e))))
-        (λ e. unheard))
+        let t = s .transmitter unit in
+        let other = receiverFor cells t in
+        let found : other < 16 → other < countIn cells = λ near. omega (arith, fitted (receiverAddress cells) (destinationOf t) (countIn cells) 0 near) in
+        let Q : Codes × List ℕ → Type 0 = λ p. Serves cells (B.given from p) from (sliceOn cells s unit from mask parity) in
+        subst⁻¹ (λ (x : Transmitter). Q (pick (actsOn (chosen x)) (B.actingSlice middle unit from mask parity) (noCodes, middle))) same
+        (either Q (actsOn (chosen t))
+        (λ acts.
+        subst⁻¹ (λ (n : ℕ). Q (B.heardOr middle unit n from mask parity)) other-found
+        (alike (λ (p : Codes × List ℕ) (q : Codes × Sides). Serves cells (B.given from p) from q) (ltb other 16) (λ e. heard other (found (ltb-true other 16 e)))
+        (λ e. unheard)))
+        (idle other found))
 
   pub served : Serves cells (B.served middle from mask parity) from (servedOn cells s from mask parity)
   served =

@@ -9,8 +9,8 @@ use native.Mathlib.Omega.{arith}
 use borrow.Author.Tests.{eqb-true, eqb-false, ltb-true, ltb-false, ne-eqb}
 use lib.Dec.{eqb, ltb}
 use Rattle.accesses.specs.Masters.{mastershipOf, holderAfter}
-use Rattle.codec.specs.laws.LimitLaws.{left-of}
 use Rattle.laws.specs.Pick.{either}
+use Rattle.laws.specs.laws.Both.{left-of}
 use Rattle.master.specs.Section.{masterWritten}
 use Rattle.master.specs.Writing as M
 use Rattle.master.specs.declared.registers.Written as MD

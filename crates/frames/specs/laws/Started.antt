@@ -2,7 +2,7 @@
 -- Assumes nothing.
 use mathlib.Core.List.{List}
 use mathlib.Core.Path.{_≡_, ap, _∙_}
-use Prim.Native.Nat.{ℕ, _+_, _≤_, _<_}
+use Prim.Native.Nat.{ℕ, _+_, _≤_, _<_, min}
 use native.Mathlib.Omega.{arith}
 use lib.ListN.{length}
 use Rattle.cells.specs.laws.FitLaws.{transmitter-address-stored, receiver-address-stored, memory-length-stored}
@@ -68,8 +68,8 @@ started-again {setup} {cells} {after} {unit} same s =
       transmitter = ap decTransmitter (same .part 4 72 (omega arith)) ∙ s .transmitter;
       receiver = ap decReceiver (same .part 76 72 (omega arith)) ∙ s .receiver;
       master = ap decMaster (same .part 148 66 (omega arith)) ∙ s .master;
-      transmitterAt = ap (λ (n : ℕ). n + 1) own0 ∙ s .transmitterAt;
-      receiverAt = ap (λ (n : ℕ). n + 1) own1 ∙ s .receiverAt;
+      transmitterAt = ap (λ (n : ℕ). min 30 n + 1) own0 ∙ s .transmitterAt;
+      receiverAt = ap (λ (n : ℕ). min 30 n + 1) own1 ∙ s .receiverAt;
       memory = rw (own2, own3) (s .memory);
     }
 
@@ -104,21 +104,18 @@ module _ (setup cells : List ℕ) (unit : ℕ) (good : UnitGood setup unit) (roo
       let a = numberOf setup unit 0 in
       let c = numberOf setup unit 1 in
       let d = numberOf setup unit 3 in
-      let a1 = good .transmitter .0 in
-      let c1 = good .receiver .0 in
-      let d1 = good .memory .0 in
       let of = own-fits setup cells unit good room in
       record {
         transmitter =
             ap decTransmitter
             (window-before (receiverPut setup cells unit) (masterPlace unit) m (transmitterPlace unit) 72 (omega arith) (omega arith)
             ∙ window-before (transmitterPut setup cells unit) (receiverPlace unit) r (transmitterPlace unit) 72 (omega arith) (omega arith))
-            ∙ transmitter-stored (ownPut setup cells unit) (transmitterPlace unit) T.initial TK.within-initial (omega arith);
+            ∙ transmitter-stored (ownPut setup cells unit) (transmitterPlace unit) (omega arith) T.initial TK.within-initial;
         receiver =
             ap decReceiver (window-before (receiverPut setup cells unit) (masterPlace unit) m (receiverPlace unit) 72 (omega arith) (omega arith))
-            ∙ receiver-stored (transmitterPut setup cells unit) (receiverPlace unit) R.initial RK.within-initial (omega arith);
-        master = master-stored (receiverPut setup cells unit) (masterPlace unit) (M.initial (numberOf setup unit 2)) (master-within setup cells unit good room) (omega arith);
-        transmitterAt = ap (λ (n : ℕ). n + 1) (own 0 (omega arith)) ∙ transmitter-address-stored a c d a1 c1 d1 cells unit of;
-        receiverAt = ap (λ (n : ℕ). n + 1) (own 1 (omega arith)) ∙ receiver-address-stored a c d a1 c1 d1 cells unit of;
-        memory = rw (own 2 (omega arith), own 3 (omega arith)) (memory-length-stored a c d a1 c1 d1 cells unit of);
+            ∙ receiver-stored (transmitterPut setup cells unit) (receiverPlace unit) (omega arith) R.initial RK.within-initial;
+        master = master-stored (receiverPut setup cells unit) (masterPlace unit) (omega arith) (M.initial (numberOf setup unit 2)) (master-within setup cells unit good room);
+        transmitterAt = ap (λ (n : ℕ). min 30 n + 1) (own 0 (omega arith)) ∙ transmitter-address-stored a c d cells unit of (good .transmitter .0) (good .transmitter .1);
+        receiverAt = ap (λ (n : ℕ). min 30 n + 1) (own 1 (omega arith)) ∙ receiver-address-stored a c d cells unit of (good .receiver .0) (good .receiver .1);
+        memory = rw (own 2 (omega arith), own 3 (omega arith)) (memory-length-stored a c d cells unit of (good .memory .0) (good .memory .1));
       }

@@ -2,7 +2,6 @@
 use borrow.Author.Needs.{needs}
 use mathlib.Core.Bool.{false}
 use mathlib.Core.Path.{_≡_}
-use Prim.Native.Nat.{_≤_}
 use lib.ListN.{length}
 use Rattle.link.specs.Turns.{SoundInput, SoundText}
 use Rattle.link.proofs.run.Statement.{statement}

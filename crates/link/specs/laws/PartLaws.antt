@@ -1,12 +1,12 @@
 -- Parts of a list, and a text put behind one.
 -- Assumes nothing.
 use mathlib.Core.List.{List, [], _∷_, _++_}
-use mathlib.Core.Path.{_≡_, refl, sym, ap, _∙_}
+use mathlib.Core.Path.{_≡_, ap, _∙_}
 use Prim.Native.Nat.{ℕ, zero, suc, _+_, _-_, _≤_}
 use native.Mathlib.Nat.{min-le-left}
 use native.Mathlib.Omega.{arith}
 use lib.ListN.{length, take, drop, length-append, length-take, length-drop, drop-of-length-le}
-use lib.Seq.{take-nil, drop-nil, sets, sets-eq, take-at, length-take-le, drop-append-le, take-add}
+use lib.Seq.{take-nil, sets, sets-eq, take-at, length-take-le, drop-append-le}
 
 -- the elements from one place up to another, as a part that is lent and as a definition says it
 pub part : (from to : ℕ) (l : List ℕ) → take (to - from) (drop from l) ≡ drop from (take to l)

@@ -14,12 +14,12 @@ use Rattle.silos.specs.Silo.{Sized, isEmpty, hasRoom, oldest, put, taken, words
 use Rattle.silos.specs.declared.Silo.{Silo}
 use Rattle.master.specs.Cycle.{counterCycle, cycleOf, cycleLength}
 use Rattle.master.specs.laws.Counter.{length-counter, counter-first, counter-turns}
-use Rattle.master.specs.laws.Laws.{within-next, counting-next}
+use Rattle.master.specs.laws.Laws.{within-next}
 use Rattle.master.specs.laws.RingLaws.{length-addresses}
 use Rattle.master.specs.laws.Rotation.{rotated, length-rotated}
 use Rattle.master.specs.Ring.{address, addressesIn}
 use Rattle.master.specs.Section.{returned, countedDown, nextOf}
-use Rattle.master.specs.Side.{Within, Counting, withAddresses, withPlace}
+use Rattle.master.specs.Side.{Within, withAddresses, withPlace}
 use Rattle.master.specs.declared.section.Next.{Next}
 use Rattle.master.specs.declared.side.Master.{Master}
 
@@ -53,14 +53,14 @@ oldest-first s h =
 
 -- ---- either mode
 
-pub step-counter : (m : Master) → Counting m → m .autoAddress ≡ true → cycleOf (nextOf m .side) ≡ rotated (cycleOf m)
-step-counter m c e =
+pub step-counter : (m : Master) → Within m → m .autoAddress ≡ true → cycleOf (nextOf m .side) ≡ rotated (cycleOf m)
+step-counter m h e =
     let p = m .place in
     let s = m .switch in
     let next : withPlace m (countedDown p s) ≡ nextOf m .side = ap (λ (n : Next). n .side) (here _ e refl) in
     let after : counterCycle (countedDown p s) s ≡ cycleOf (withPlace m (countedDown p s)) = here _ e refl in
     let before : counterCycle p s ≡ cycleOf m = here _ e refl in
-    sym (ap cycleOf next) ∙ sym after ∙ counter-turns p s (c .least) (c .most) ∙ ap rotated before
+    sym (ap cycleOf next) ∙ sym after ∙ counter-turns p s (h .least) (h .most) ∙ ap rotated before
 
 pub step-silo : (m : Master) → Within m → m .autoAddress ≡ false → cycleOf (nextOf m .side) ≡ rotated (cycleOf m)
 step-silo m h e =
@@ -70,9 +70,9 @@ step-silo m h e =
     let before : addressesIn s ≡ cycleOf m = past _ e refl in
     sym (ap cycleOf next) ∙ sym after ∙ returned-turns s (h .silo) ∙ ap rotated before
 
-module _ (m : Master) (h : Within m) (c : Counting m) where
+module _ (m : Master) (h : Within m) where
   pub step : cycleOf (nextOf m .side) ≡ rotated (cycleOf m)
-  step = by (m .autoAddress) (step-counter m c) (step-silo m h)
+  step = by (m .autoAddress) (step-counter m h) (step-silo m h)
 
   pub first : nextOf m .address ≡ getD (cycleOf m) 0 0
   first =
@@ -80,7 +80,7 @@ module _ (m : Master) (h : Within m) (c : Counting m) where
       (λ e.
       let given : m .place ≡ nextOf m .address = ap (λ (n : Next). n .address) (here _ e refl) in
       let before : counterCycle (m .place) (m .switch) ≡ cycleOf m = here _ e refl in
-      sym given ∙ counter-first (m .place) (m .switch) (c .least) (c .most) ∙ ap (λ (ring : List ℕ). getD ring 0 0) before)
+      sym given ∙ counter-first (m .place) (m .switch) (h .least) (h .most) ∙ ap (λ (ring : List ℕ). getD ring 0 0) before)
       (λ e.
       let given : address (oldest (m .addresses)) ≡ nextOf m .address = ap (λ (n : Next). n .address) (past _ e refl) in
       let before : addressesIn (m .addresses) ≡ cycleOf m = past _ e refl in
@@ -88,13 +88,13 @@ module _ (m : Master) (h : Within m) (c : Counting m) where
 
   pub length-cycle : length (cycleOf m) ≡ cycleLength m
   length-cycle =
-      by (m .autoAddress) (λ e. rw e (length-counter (m .place) (m .switch) (c .least) (c .most)))
+      by (m .autoAddress) (λ e. rw e (length-counter (m .place) (m .switch) (h .least) (h .most)))
       (λ e. rw e (length-addresses (m .addresses) (h .silo)))
 
 -- how many they are stays
-pub length-stays : (m : Master) → Within m → Counting m → cycleLength (nextOf m .side) ≡ cycleLength m
-length-stays m h c =
-    sym (length-cycle (nextOf m .side) (within-next m h) (counting-next m c))
-    ∙ ap length (step m h c)
+pub length-stays : (m : Master) → Within m → cycleLength (nextOf m .side) ≡ cycleLength m
+length-stays m h =
+    sym (length-cycle (nextOf m .side) (within-next m h))
+    ∙ ap length (step m h)
     ∙ length-rotated (cycleOf m)
-    ∙ length-cycle m h c
+    ∙ length-cycle m h

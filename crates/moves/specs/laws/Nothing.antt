@@ -1,15 +1,12 @@
--- A move answered 4 leaves everything as it was: so the code need not put the side back.
+-- A move answers what its rule answers; and where that is 4, every cell and the memory are as they were.
 -- Assumes nothing.
 use mathlib.Core.Bool.{Bool, true, false, not, true≢false}
 use mathlib.Core.List.{List}
-use mathlib.Core.Path.{_≡_, refl, ap, sym, _∙_}
-use Prim.Native.Nat.{ℕ, _<_}
-use Rattle.cells.specs.Fitted.{transmitterOf, receiverOf, putTransmitter, putReceiver}
-use Rattle.cells.specs.Layout.{countIn, memoryLength}
-use Rattle.cells.specs.Ranges.{inRange}
-use Rattle.cells.specs.laws.SideLaws.{transmitter-unchanged, receiver-unchanged}
-use Rattle.codec.specs.Limits.{Words}
-use Rattle.laws.specs.Pick.{either}
+use mathlib.Core.Path.{_≡_, refl, sym, _∙_}
+use Prim.Native.Nat.{ℕ}
+use Rattle.cells.specs.Fitted.{transmitterOf, receiverOf}
+use Rattle.cells.specs.Layout.{memoryLength}
+use Rattle.laws.specs.Pick.{by, either}
 use Rattle.receiver.specs.Moves as R
 use Rattle.receiver.specs.declared.moves.Moved as RM
 use Rattle.receiver.specs.declared.side.Receiver.{Receiver}
@@ -25,44 +22,43 @@ abbrev pub hasMoved : Move → Bool
 hasMoved Move.Done = true
 hasMoved Move.Nothing = false
 
-pub done : (m : Move) → hasMoved m ≡ true → m ≡ Move.Done
-done Move.Done e = refl
-done Move.Nothing e = absurd (true≢false (sym e))
+-- ---- the rules: 4 only where the side may not move
 
--- ---- the sides
+transmitter-may-not : (t : Transmitter) (memory : List ℕ) (fitted : ℕ) → hasMoved (T.moved t memory fitted .answer) ≡ false → not (T.mayMove t) ≡ true
+transmitter-may-not t memory fitted =
+    either (λ (m : TM.Moved). hasMoved (m .answer) ≡ false → not (T.mayMove t) ≡ true) (not (T.mayMove t)) (λ e h. e) (λ e h. absurd (true≢false h))
 
-abbrev TransmitterKept : Transmitter → TM.Moved → Type 0
-TransmitterKept t m = hasMoved (m .answer) ≡ false → m ≡ record { side = t; answer = Move.Nothing }
+stored : (r : Receiver) (memory : List ℕ) (p : Place) → hasMoved (R.movedTo r memory p .0 .answer) ≡ true
+stored r memory (Place.Inside at) = refl
+stored r memory Place.Outside = refl
 
-pub transmitter-nothing : (t : Transmitter) (memory : List ℕ) (size : ℕ) → TransmitterKept t (T.moved t memory size)
-transmitter-nothing t memory size = either (TransmitterKept t) (not (T.mayMove t)) (λ e h. refl) (λ e h. absurd (true≢false h))
+receiver-may-not : (r : Receiver) (memory : List ℕ) (fitted : ℕ) → hasMoved (R.moved r memory fitted .0 .answer) ≡ false → not (R.mayMove r) ≡ true
+receiver-may-not r memory fitted =
+    let P : RM.Moved × List ℕ → Type 0 = λ p. hasMoved (p .0 .answer) ≡ false → not (R.mayMove r) ≡ true in
+    either P (not (R.mayMove r)) (λ e h. e)
+    (λ e. either P (not (r .end .load .loaded)) (λ e h. absurd (true≢false h))
+    (λ e h. absurd (true≢false (sym (stored r memory (placeOf (r .end .load .address .0) fitted)) ∙ h))))
 
--- and the memory
-abbrev ReceiverKept : Receiver → List ℕ → RM.Moved × List ℕ → Type 0
-ReceiverKept r memory p = hasMoved (p .0 .answer) ≡ false → p ≡ (record { side = r; answer = Move.Nothing }, memory)
+-- ---- on the cells
 
-stored : (r : Receiver) (memory : List ℕ) (p : Place) → ReceiverKept r memory (R.movedTo r memory p)
-stored r memory (Place.Inside at) h = absurd (true≢false h)
-stored r memory Place.Outside h = absurd (true≢false h)
+module _ (cells memory : List ℕ) (unit : ℕ) where
+  abbrev sent : TM.Moved
+  sent = T.moved (transmitterOf cells unit) memory (memoryLength cells unit)
 
-pub receiver-nothing : (r : Receiver) (memory : List ℕ) (size : ℕ) → ReceiverKept r memory (R.moved r memory size)
-receiver-nothing r memory size =
-    either (ReceiverKept r memory) (not (R.mayMove r)) (λ e h. refl)
-    (λ e. either (ReceiverKept r memory) (not (r .load .loaded)) (λ e h. absurd (true≢false h)) (λ e. stored r memory (placeOf (r .load .address .0) size)))
+  abbrev received : RM.Moved × List ℕ
+  received = R.moved (receiverOf cells unit) memory (memoryLength cells unit)
 
--- ---- the cells
+  pub transmitter-answers : transmitterMoved cells memory unit .0 ≡ sent .answer
+  transmitter-answers = by (not (T.mayMove (transmitterOf cells unit))) (λ e. rw e) (λ e. rw e)
 
-module _ (cells : List ℕ) (ok : inRange cells ≡ true) (words : Words cells) (memory : List ℕ) (unit : ℕ) (there : unit < countIn cells) where
-  pub transmitter-stays : hasMoved (T.moved (transmitterOf cells unit) memory (memoryLength cells unit) .answer) ≡ false
-      → (Move.Nothing, cells) ≡ transmitterMoved cells memory unit
-  transmitter-stays h =
-      let t = transmitterOf cells unit in
-      ap (λ (l : List ℕ). (Move.Nothing, l)) (sym (transmitter-unchanged cells ok unit there words))
-      ∙ ap (λ (m : TM.Moved). (m .answer, putTransmitter cells unit (m .side))) (sym (transmitter-nothing t memory (memoryLength cells unit) h))
+  pub receiver-answers : receiverMoved cells memory unit .0 ≡ received .0 .answer
+  receiver-answers = by (not (R.mayMove (receiverOf cells unit))) (λ e. rw e) (λ e. rw e)
 
-  pub receiver-stays : hasMoved (R.moved (receiverOf cells unit) memory (memoryLength cells unit) .0 .answer) ≡ false
-      → (Move.Nothing, cells, memory) ≡ receiverMoved cells memory unit
-  receiver-stays h =
-      let r = receiverOf cells unit in
-      ap (λ (l : List ℕ). (Move.Nothing, l, memory)) (sym (receiver-unchanged cells ok unit there words))
-      ∙ ap (λ (p : RM.Moved × List ℕ). (p .0 .answer, putReceiver cells unit (p .0 .side), p .1)) (sym (receiver-nothing r memory (memoryLength cells unit) h))
+  pub receiver-memory : receiverMoved cells memory unit .2 ≡ received .1
+  receiver-memory = by (not (R.mayMove (receiverOf cells unit))) (λ e. rw e) (λ e. rw e)
+
+  pub transmitter-stays : hasMoved (sent .answer) ≡ false → transmitterMoved cells memory unit ≡ (Move.Nothing, cells)
+  transmitter-stays h = rw (transmitter-may-not (transmitterOf cells unit) memory (memoryLength cells unit) h)
+
+  pub receiver-stays : hasMoved (received .0 .answer) ≡ false → receiverMoved cells memory unit ≡ (Move.Nothing, cells, memory)
+  receiver-stays h = rw (receiver-may-not (receiverOf cells unit) memory (memoryLength cells unit) h)

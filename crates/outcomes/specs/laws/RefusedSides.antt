@@ -1,10 +1,12 @@
--- An access that is refused leaves its side as it was.
+-- An access that changes its side is not refused: none of the numbers whose row says "unchanged" is its answer.
 -- Assumes nothing.
-use mathlib.Core.Bool.{true, false, _||_, false≢true}
-use mathlib.Core.Path.{_≡_, refl}
+use mathlib.Core.Bool.{true, false, not, _&&_, _||_, true≢false, false≢true}
+use mathlib.Core.Path.{_≡_, refl, sym, ap, subst, _∙_}
 use Prim.Native.Nat.{ℕ}
+use borrow.Author.Tests.{eqb-true}
 use lib.Dec.{eqb}
 use Rattle.laws.specs.Pick.{either}
+use Rattle.laws.specs.laws.Both.{left-of, right-of}
 use Rattle.moves.specs.laws.Nothing.{hasMoved}
 use Rattle.receiver.specs.declared.side.Receiver.{Receiver}
 use Rattle.receiver_registers.specs.Reading as RR
@@ -21,6 +23,8 @@ use Rattle.transmitter_registers.specs.declared.registers.Written as TWD
 use Rattle.words.specs.Answers.{readNumber, readWord, writeNumber, moveNumber}
 use Rattle.words.specs.Halves.{evenBelow, withHalf}
 use Rattle.words.specs.declared.answers.Move.{Move}
+use Rattle.words.specs.declared.answers.Read.{Read}
+use Rattle.words.specs.declared.answers.Write.{Write}
 use Rattle.outcomes.specs.Unchanged.{leavesAll}
 
 -- 4 is the answer of a move that has nothing to move, and changes nothing (`moves`, Nothing)
@@ -28,61 +32,62 @@ pub nothing : (m : Move) → leavesAll (moveNumber m) ≡ true → hasMoved m �
 nothing Move.Done h = absurd (false≢true h)
 nothing Move.Nothing h = refl
 
+abbrev ReadDone : Read → Type 0
+ReadDone r = leavesAll (readNumber r) ≡ false
+
+abbrev WriteDone : Write → Type 0
+WriteDone w = leavesAll (writeNumber w) ≡ false
+
 -- ---- the transmitter
 
-module _ (t : Transmitter) where
-  abbrev ReadKept : TRD.Reading → Type 0
-  ReadKept r = leavesAll (readNumber (r .answer)) ≡ true → r .side ≡ t
+module _ (t : Transmitter) (offset : ℕ) where
+  pub transmitter-read-done : TR.removes t offset ≡ true → ReadDone (TR.readOf t offset .answer)
+  transmitter-read-done some =
+      let P : TRD.Reading → Type 0 = λ r. ReadDone (r .answer) in
+      let held = right-of (eqb offset 4 && t .modes .readSilo) (not (isEmpty (t .end .silo))) some in
+      let named = left-of (eqb offset 4) (t .modes .readSilo) (left-of (eqb offset 4 && t .modes .readSilo) (not (isEmpty (t .end .silo))) some) in
+      either P (eqb offset 4)
+      (λ e. either P (isEmpty (t .end .silo)) (λ none. absurd (true≢false (sym held ∙ ap not none))) (λ e. either P (t .modes .readSilo) (λ e. refl) (λ e. refl)))
+      (λ e. absurd (true≢false (sym named ∙ e)))
 
-  pub transmitter-read-refused : (offset : ℕ) → ReadKept (TR.readOf t offset)
-  transmitter-read-refused offset =
-      either ReadKept (eqb offset 4)
-      (λ e. either ReadKept (isEmpty (t .silo)) (λ e h. refl) (λ e. either ReadKept (t .modes .readSilo) (λ e h. absurd (false≢true h)) (λ e h. refl)))
-      (λ e h. refl)
+  pub transmitter-write-done : (word : ℕ) → TW.changes offset ≡ true → WriteDone (TW.written t offset word .answer)
+  transmitter-write-done word some =
+      let P : TWD.Written → Type 0 = λ w. WriteDone (w .answer) in
+      either P (eqb offset 0) (λ e. refl)
+      (λ a. either P (eqb offset 2) (λ e. refl)
+      (λ b. either P (eqb offset 4) (λ e. either P (dataInReady t) (λ e. refl) (λ e. refl))
+      (λ c. either P (eqb offset 6) (λ e. refl) (λ d. either P (eqb offset 8) (λ e. refl) (λ e. absurd (false≢true (rw (a, b, c, d, e) at some)))))))
 
-  abbrev WrittenKept : TWD.Written → Type 0
-  WrittenKept w = leavesAll (writeNumber (w .answer)) ≡ true → w .side ≡ t
-
-  pub transmitter-write-refused : (offset word : ℕ) → WrittenKept (TW.written t offset word)
-  transmitter-write-refused offset word =
-      either WrittenKept (eqb offset 0) (λ e h. absurd (false≢true h))
-      (λ e. either WrittenKept (eqb offset 2) (λ e h. absurd (false≢true h))
-      (λ e. either WrittenKept (eqb offset 4)
-      (λ e. either WrittenKept (dataInReady t) (λ e h. absurd (false≢true h)) (λ e h. absurd (false≢true h)))
-      (λ e. either WrittenKept (eqb offset 6) (λ e h. absurd (false≢true h))
-      (λ e. either WrittenKept (eqb offset 8) (λ e h. absurd (false≢true h))
-      (λ e. either WrittenKept (eqb offset 12) (λ e h. refl) (λ e h. refl))))))
-
-  pub transmitter-byte-refused : (offset byte : ℕ) → WrittenKept (TW.byteWritten t offset byte)
-  transmitter-byte-refused offset byte =
-      either WrittenKept (eqb (evenBelow offset) 4) (λ e h. refl)
-      (λ e. transmitter-write-refused (evenBelow offset) (withHalf (readWord (TR.showOf t (evenBelow offset))) offset byte))
+pub transmitter-byte-done : (t : Transmitter) (offset byte : ℕ) → TW.changesByte offset ≡ true → WriteDone (TW.byteWritten t offset byte .answer)
+transmitter-byte-done t offset byte some =
+    let apart = left-of (not (eqb (evenBelow offset) 4)) (TW.changes (evenBelow offset)) some in
+    either (λ (w : TWD.Written). WriteDone (w .answer)) (eqb (evenBelow offset) 4) (λ e. absurd (true≢false (sym apart ∙ ap not e)))
+    (λ e. transmitter-write-done t (evenBelow offset) (withHalf (readWord (TR.showOf t (evenBelow offset))) offset byte)
+    (right-of (not (eqb (evenBelow offset) 4)) (TW.changes (evenBelow offset)) some))
 
 -- ---- the receiver
 
-module _ (r : Receiver) where
-  abbrev ReceiverReadKept : RRD.Reading → Type 0
-  ReceiverReadKept x = leavesAll (readNumber (x .answer)) ≡ true → x .side ≡ r
+module _ (r : Receiver) (offset : ℕ) where
+  pub receiver-read-done : RR.removes r offset ≡ true → ReadDone (RR.readOf r offset .answer)
+  receiver-read-done some =
+      let P : RRD.Reading → Type 0 = λ x. ReadDone (x .answer) in
+      let held = right-of (eqb offset 20 && not (r .modes .memoryRequests)) (not (isEmpty (r .end .silo))) some in
+      let named = left-of (eqb offset 20) (not (r .modes .memoryRequests)) (left-of (eqb offset 20 && not (r .modes .memoryRequests)) (not (isEmpty (r .end .silo))) some) in
+      either P (eqb offset 20)
+      (λ e. either P (isEmpty (r .end .silo)) (λ none. absurd (true≢false (sym held ∙ ap not none))) (λ e. either P (r .modes .memoryRequests) (λ e. refl) (λ e. refl)))
+      (λ e. absurd (true≢false (sym named ∙ e)))
 
-  pub receiver-read-refused : (offset : ℕ) → ReceiverReadKept (RR.readOf r offset)
-  receiver-read-refused offset =
-      either ReceiverReadKept (eqb offset 20)
-      (λ e. either ReceiverReadKept (isEmpty (r .silo)) (λ e h. refl)
-      (λ e. either ReceiverReadKept (r .modes .memoryRequests) (λ e h. refl) (λ e h. absurd (false≢true h))))
-      (λ e h. refl)
+  pub receiver-write-done : (word : ℕ) → RW.changes offset ≡ true → WriteDone (RW.written r offset word .answer)
+  receiver-write-done word some =
+      let P : RWD.Written → Type 0 = λ w. WriteDone (w .answer) in
+      either P (eqb offset 16) (λ e. refl)
+      (λ a. either P (eqb offset 18) (λ e. refl)
+      (λ b. either P (eqb offset 22) (λ e. refl) (λ c. either P (eqb offset 24) (λ e. refl) (λ e. absurd (false≢true (rw (a, b, c, e) at some))))))
 
-  abbrev ReceiverWrittenKept : RWD.Written → Type 0
-  ReceiverWrittenKept w = leavesAll (writeNumber (w .answer)) ≡ true → w .side ≡ r
-
-  pub receiver-write-refused : (offset word : ℕ) → ReceiverWrittenKept (RW.written r offset word)
-  receiver-write-refused offset word =
-      either ReceiverWrittenKept (eqb offset 16) (λ e h. absurd (false≢true h))
-      (λ e. either ReceiverWrittenKept (eqb offset 18) (λ e h. absurd (false≢true h))
-      (λ e. either ReceiverWrittenKept (eqb offset 22) (λ e h. absurd (false≢true h))
-      (λ e. either ReceiverWrittenKept (eqb offset 24) (λ e h. absurd (false≢true h))
-      (λ e. either ReceiverWrittenKept (eqb offset 20 || eqb offset 26) (λ e h. refl) (λ e h. refl)))))
-
-  pub receiver-byte-refused : (offset byte : ℕ) → ReceiverWrittenKept (RW.byteWritten r offset byte)
-  receiver-byte-refused offset byte =
-      either ReceiverWrittenKept (eqb (evenBelow offset) 20) (λ e h. refl)
-      (λ e. receiver-write-refused (evenBelow offset) (withHalf (readWord (RR.showOf r (evenBelow offset))) offset byte))
+pub receiver-byte-done : (r : Receiver) (offset byte : ℕ) → RW.changesByte offset ≡ true → WriteDone (RW.byteWritten r offset byte .answer)
+receiver-byte-done r offset byte some =
+    either (λ (w : RWD.Written). WriteDone (w .answer)) (eqb (evenBelow offset) 20) (λ e. absurd (shut e))
+    (λ e. receiver-write-done r (evenBelow offset) (withHalf (readWord (RR.showOf r (evenBelow offset))) offset byte) some)
+  where
+    shut : eqb (evenBelow offset) 20 ≡ true → ⊥
+    shut e = false≢true (subst (λ (n : ℕ). RW.changes n ≡ true) (eqb-true (evenBelow offset) 20 e) some)

@@ -3,15 +3,15 @@
 use mathlib.Core.Bool.{Bool, true, false, not}
 use mathlib.Core.List.{List}
 use mathlib.Core.Path.{_≡_, refl}
-use Prim.Native.Nat.{ℕ, _<_}
-use borrow.Author.Tests.{leb-false, not-false}
+use Prim.Native.Nat.{ℕ}
 use lib.Dec.{leb}
-use Rattle.cells.specs.Fitted.{Fitted, fitted}
+use Rattle.cells.specs.Fitted.{Fitted}
 use Rattle.cells.specs.Layout.{countIn}
 use Rattle.cells.specs.Ranges.{inRange}
-use Rattle.codec.specs.Limits.{Words}
+use Rattle.cells.specs.laws.RangeLaws.{fitted}
 use Rattle.laws.specs.Pick.{pick}
 use Rattle.pcl.specs.Calls.{admitted}
+use Rattle.pcl.specs.laws.Cases.{admitted-cases}
 use Rattle.pcl.specs.declared.units.Admission.{Admission}
 
 abbrev pub admission : List ℕ → ℕ → Admission
@@ -32,25 +32,12 @@ pub goes-on : {A : Type 0} {x : A} (cells : List ℕ) (unit : ℕ) (a b c : A) {
     → x ≡ admitted cells unit a b c
 goes-on cells unit a b c e p = rw (← by-tests (not (inRange cells)) (leb (countIn cells) unit) a b c, e) p
 
-abbrev Both : Bool → Bool → Admission → Type 0
-Both t u Admission.BadState = Unit {0}
-Both t u Admission.NoUnit = Unit {0}
-Both t u Admission.Fitted = (t ≡ false) × (u ≡ false)
+-- an admitted unit is one of those that the header counts
+abbrev FittedThen : List ℕ → ℕ → Admission → Type 0
+FittedThen cells unit Admission.BadState = Unit {0}
+FittedThen cells unit Admission.NoUnit = Unit {0}
+FittedThen cells unit Admission.Fitted = Fitted cells unit
 
-both : (t u : Bool) → Both t u (pick t Admission.BadState (pick u Admission.NoUnit Admission.Fitted))
-both true u = tt
-both false true = tt
-both false false = (refl, refl)
-
-module _ (cells : List ℕ) (unit : ℕ) (e : admission cells unit ≡ Admission.Fitted) where
-  tests : (not (inRange cells) ≡ false) × (leb (countIn cells) unit ≡ false)
-  tests = rw e at (both (not (inRange cells)) (leb (countIn cells) unit))
-
-  pub ranged : inRange cells ≡ true
-  ranged = not-false _ (tests .0)
-
-  pub there : unit < countIn cells
-  there = leb-false _ _ (tests .1)
-
-  pub at-unit : Words cells → Fitted cells unit
-  at-unit words = fitted cells ranged words unit there
+pub at-unit : (cells : List ℕ) (unit : ℕ) → admission cells unit ≡ Admission.Fitted → Fitted cells unit
+at-unit cells unit e =
+    rw e at (admitted-cases cells (FittedThen cells unit) unit Admission.BadState Admission.NoUnit Admission.Fitted tt tt (λ ok there. fitted cells ok unit there))

@@ -6,15 +6,16 @@ use Prim.Native.Nat.{ℕ, _-_, _<_}
 use native.Mathlib.Omega.{arith}
 use borrow.Author.Tests.{eqb-false}
 use lib.Dec.{eqb, ltb, lit<}
+use Rattle.answering.specs.Choice.{openWithAnother}
 use Rattle.answering.specs.laws.Keeps.{code-lt}
-use Rattle.bus.specs.Slice.{heardOr, served}
+use Rattle.bus.specs.Slice.{heardOr, sliceOf, served}
 use Rattle.bus.specs.declared.slice.Given.{Given}
 use Rattle.bus.specs.declared.slice.Slot.{Slot}
-use Rattle.cells.specs.Fitted.{fitted, transmitterOf, receiverOf, masterOf, putMaster}
+use Rattle.cells.specs.Fitted.{transmitterOf, receiverOf, masterOf, putMaster}
 use Rattle.cells.specs.Layout.{countIn, holderIn}
-use Rattle.cells.specs.laws.RangeLaws.{in-range-says}
+use Rattle.cells.specs.laws.FittedLaws.{master-within}
+use Rattle.cells.specs.laws.RangeLaws.{in-range-says, fitted}
 use Rattle.cells.specs.Search.{firstTransmitter, firstReceiver}
-use Rattle.codec.specs.Limits.{Words}
 use Rattle.laws.specs.Pick.{either}
 use Rattle.master.specs.laws.Laws.{next-lt}
 use Rattle.master.specs.Section.{nextOf}
@@ -35,6 +36,9 @@ use Rattle.pcl.specs.declared.answers.SliceCall.{SliceCall}
 abbrev Small : Codes → Type 0
 Small c = (c .a < 4) × (c .b < 4)
 
+abbrev GivesSmall : Codes × List ℕ → Type 0
+GivesSmall p = Small (p .0)
+
 exchanged-small : (t : Transmitter) (r : Receiver) (from mask : ℕ) (parity : Bool) → Small (exchanged t r from mask parity .codes)
 exchanged-small t r from mask parity =
     either (λ (p : Pair). Small (p .codes)) (actsOn (chosen t))
@@ -44,22 +48,30 @@ alone-small : (t : Transmitter) → Small (sentAlone t .codes)
 alone-small t = either (λ (a : Alone). Small (a .codes)) (actsOn (chosen t)) (λ e. (sent-lt (chosen t), lit< tt)) (λ e. (lit< tt, lit< tt))
 
 module _ (cells : List ℕ) (mask : ℕ) (parity : Bool) where
-  heard-small : (unit other from : ℕ) → Small (heardOr cells unit other from mask parity .0)
+  heard-small : (unit other from : ℕ) → GivesSmall (heardOr cells unit other from mask parity)
   heard-small unit other from =
-      either (λ (p : Codes × List ℕ). Small (p .0)) (ltb other 16)
-      (λ e. exchanged-small (transmitterOf cells unit) (receiverOf cells other) from mask parity) (λ e. alone-small (transmitterOf cells unit))
+      let alone = alone-small (transmitterOf cells unit) in
+      either GivesSmall (ltb other 16)
+      (λ e.
+      either GivesSmall (openWithAnother (receiverOf cells other) from) (λ e. alone)
+      (λ e. exchanged-small (transmitterOf cells unit) (receiverOf cells other) from mask parity))
+      (λ e. alone)
+
+  slice-small : (unit from : ℕ) → GivesSmall (sliceOf cells unit from mask parity)
+  slice-small unit from =
+      let t = transmitterOf cells unit in
+      either GivesSmall (actsOn (chosen t))
+      (λ e. heard-small unit (firstReceiver cells (countIn cells) (destinationOf t)) from) (λ e. (lit< tt, lit< tt))
 
   served-narrow : (address : ℕ) → address < 32 → Narrow (served cells address mask parity .0)
   served-narrow address h =
       let unit = firstTransmitter cells (countIn cells) address in
       either (λ (p : Given × List ℕ). Narrow (p .0)) (ltb unit 16)
-      (λ e.
-      let s = heard-small unit (firstReceiver cells (countIn cells) (destinationOf (transmitterOf cells unit))) address in
-      (h, s .0, s .1))
+      (λ e. let s = slice-small unit address in (h, s .0, s .1))
       (λ e. (h, lit< tt, lit< tt))
 
-pub narrow : (cells : List ℕ) → Words cells → (mask parity : ℕ) → NarrowCall (sliceCall cells mask parity .0)
-narrow cells words mask parity =
+pub narrow : (cells : List ℕ) (mask parity : ℕ) → NarrowCall (sliceCall cells mask parity .0)
+narrow cells mask parity =
     slice-cases cells (λ (p : SliceCall × List ℕ). NarrowCall (p .0)) mask parity tt tt
     (λ ok.
     either (λ (p : Slot × List ℕ). NarrowSlot (p .0)) (eqb (holderIn cells) 0) (λ e. tt)
@@ -68,4 +80,4 @@ narrow cells words mask parity =
     let u = holderIn cells - 1 in
     let there : u < countIn cells = omega (arith, eqb-false (holderIn cells) 0 some) in
     let m = masterOf cells u in
-    served-narrow (putMaster cells u (nextOf m .side)) mask (eqb parity 1) (nextOf m .address) (next-lt m (fitted cells ok words u there .master))))
+    served-narrow (putMaster cells u (nextOf m .side)) mask (eqb parity 1) (nextOf m .address) (next-lt m (master-within cells u (fitted cells ok u there)))))

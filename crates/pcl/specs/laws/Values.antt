@@ -6,7 +6,6 @@ use Prim.Native.Nat.{ℕ, _+_, _*_, _/_}
 use native.Mathlib.Omega.{arith}
 use Rattle.bus.specs.declared.slice.Given.{Given}
 use Rattle.bus.specs.declared.slice.Slot.{Slot}
-use Rattle.codec.specs.Limits.{Words}
 use Rattle.pcl.specs.Link.{sliceCall}
 use Rattle.pcl.specs.Numbers.{sliceNumber, sliceValue, givenValue, addressOf, aOf, bOf}
 use Rattle.pcl.specs.laws.Narrow.{Narrow, NarrowCall}
@@ -34,7 +33,7 @@ given-by SliceCall.BadMask e = absurd (omega (arith, e))
 given-by (SliceCall.Passed Slot.NoMaster) e = absurd (omega (arith, e))
 
 -- of every slice call, whatever it was lent
-pub slice-shows : (cells : List ℕ) → Words cells → (mask parity : ℕ) (g : Given)
+pub slice-shows : (cells : List ℕ) (mask parity : ℕ) (g : Given)
     → sliceCall cells mask parity .0 ≡ SliceCall.Passed (Slot.Given g) → Shows g (sliceValue (sliceCall cells mask parity .0))
-slice-shows cells words mask parity g e =
-    rw (ap sliceValue e) (given-shows g (rw (ap NarrowCall e) at (narrow cells words mask parity)))
+slice-shows cells mask parity g e =
+    rw (ap sliceValue e) (given-shows g (rw (ap NarrowCall e) at (narrow cells mask parity)))

@@ -1,9 +1,9 @@
 -- The set-up stands at the front of the numbers, and goes to the call.
 use borrow.Author.Needs.{needs}
-use mathlib.Core.Path.{_≡_, sym, ap, _∙_}
+use mathlib.Core.Path.{sym, ap, _∙_}
 use Prim.Native.Nat.{_*_, _≤_}
 use native.Mathlib.Omega.{arith}
-use lib.ListN.{length, drop}
+use lib.ListN.{drop}
 use lib.Seq.{length-take-le}
 use Rattle.pcl.specs.Face.{fitFace}
 use Rattle.script.specs.laws.SetUpLaws.{set-up-fits, set-up-stands}

@@ -1,12 +1,17 @@
 -- What a line shows is document 01's number of the call's answer, and its values.
 -- Assumes nothing.
 use mathlib.Core.Bool.{true, false}
+use mathlib.Core.List.{List}
 use mathlib.Core.Path.{_≡_, refl}
-use Prim.Native.Nat.{ℕ, _+_, _*_, _/_, _%_, _<_}
+use Prim.Native.Nat.{ℕ, _+_, _*_, _<_}
 use native.Mathlib.Omega.{arith}
 use Rattle.bus.specs.declared.slice.Slot.{Slot}
-use Rattle.pcl.specs.Numbers.{readCallNumber, readCallWord, readPacked, levelNumber, levelValue, levelPacked, slicePacked}
+use Rattle.pcl.specs.Face.{sliceFace}
+use Rattle.pcl.specs.Link.{sliceCall}
+use Rattle.pcl.specs.Numbers.{readCallNumber, readCallWord, readPacked, levelNumber, levelValue, levelPacked, slicePacked, givenValue}
+use Rattle.pcl.specs.laws.Bounds.{narrow}
 use Rattle.pcl.specs.laws.Narrow.{NarrowCall}
+use Rattle.pcl.specs.laws.Values.{given-shows}
 use Rattle.pcl.specs.declared.answers.LevelCall.{LevelCall}
 use Rattle.pcl.specs.declared.answers.ReadCall.{ReadCall}
 use Rattle.pcl.specs.declared.answers.SliceCall.{SliceCall}
@@ -41,16 +46,15 @@ sliceSays SliceCall.BadMask = Line.Slice 7 0 0 0
 sliceSays (SliceCall.Passed Slot.NoMaster) = Line.Slice 8 0 0 0
 sliceSays (SliceCall.Passed (Slot.Given g)) = Line.Slice 0 (g .address) (g .codes .a) (g .codes .b)
 
--- they fit their bits in every answer of a slice: `Bounds` of the calls
-pub slice-line : (c : SliceCall) → NarrowCall c → sliceLine (slicePacked c) ≡ sliceSays c
-slice-line SliceCall.BadState narrow = refl
-slice-line SliceCall.BadMask narrow = refl
-slice-line (SliceCall.Passed Slot.NoMaster) narrow = refl
-slice-line (SliceCall.Passed (Slot.Given g)) narrow =
-    let v = g .address + g .codes .a * 32 + g .codes .b * 128 in
-    let address : v % 32 ≡ g .address = omega (arith, narrow) in
-    let codes : v / 32 ≡ g .codes .a + g .codes .b * 4 = omega (arith, narrow) in
-    let a : v / 32 % 4 ≡ g .codes .a = rw codes (omega (arith, narrow)) in
-    let high : v / 128 ≡ g .codes .b = omega (arith, narrow) in
-    let b : v / 128 % 4 ≡ g .codes .b = rw high (omega (arith, narrow)) in
-    rw (number 0 v (omega arith), value 0 v (omega arith), address, a, b)
+says : (c : SliceCall) → NarrowCall c → sliceLine (slicePacked c) ≡ sliceSays c
+says SliceCall.BadState fits = refl
+says SliceCall.BadMask fits = refl
+says (SliceCall.Passed Slot.NoMaster) fits = refl
+says (SliceCall.Passed (Slot.Given g)) fits =
+    let v = givenValue g in
+    let shows = given-shows g fits in
+    rw (number 0 v (omega arith), value 0 v (omega arith), shows .address, shows .a, shows .b)
+
+-- of every slice call, whatever it was lent: they fit their bits
+pub slice-line : (cells : List ℕ) (mask parity : ℕ) → sliceLine (sliceFace cells mask parity .0) ≡ sliceSays (sliceCall cells mask parity .0)
+slice-line cells mask parity = says (sliceCall cells mask parity .0) (narrow cells mask parity)

@@ -42,7 +42,7 @@ module _ (p : Parties) (start : World) (o : Opens p start) (q : State) (w : Worl
   host-follows unit place word allowed =
       let a : HostWrite p (messageIn p start) unit place word w = allowed refl in
       let new = set (w .memory unit) place word in
-      quiet-follows p start o q w s (stays (s .whole)) refl refl (withMemory (w .memory) unit new)
+      quiet-follows p start o q w s (stays (s .ranged)) refl refl (withMemory (w .memory) unit new)
       (written-elsewhere p start q w s unit new (λ e. a .notReceiving (sym e)) (a .sentKept))
 
   pub follows : (e : Event) → Allowed p (messageIn p start) e w → Follows p start q w (kindOf (messageIn p start .from) e w) (step e w)

@@ -12,7 +12,7 @@ use Rattle.delivery.specs.laws.Slices.{State}
 use Rattle.frames.specs.laws.Serving.{heardOn}
 use Rattle.frames.specs.laws.Sides.{replaced-here}
 use Rattle.frames.specs.laws.Slices.{SlicePasses, nextAddress, nextOn}
-use Rattle.frames.specs.laws.Whole.{Kept, kept-then}
+use Rattle.frames.specs.laws.Kept.{Kept, kept-then}
 use Rattle.slices.specs.Slice.{exchanged}
 use Rattle.promise.specs.laws.Follows.{sidesAre}
 use Rattle.promise.specs.Opening.{Parties, endsOf, messageIn}
@@ -33,7 +33,7 @@ module _ (p : Parties) (start w : World) (kept : Kept (start .cells) (w .cells))
       let t = h .transmitter (p .sender) sender ∙ replaced-here (transmitterOf (w .cells)) (p .sender) _ in
       let r = h .receiver (p .receiver) receiver ∙ replaced-here (receiverOf (w .cells)) (p .receiver) _ in
       record {
-        whole = heard .leaves .whole;
+        ranged = heard .leaves .ranged;
         kept = kept-then (start .cells) (w .cells) _ kept (heard .leaves .kept);
         mastered = h .holder ∙ mastered;
         delivering = subst⁻¹ (Delivering (messageIn p start) q) (ap₂ (sidesAre (endsOf p w)) t r) delivering;

@@ -5,6 +5,8 @@ use mathlib.Core.Path.{_≡_, refl, ap, ap₂, subst⁻¹, _∙_}
 use Prim.Native.Nat.{ℕ, _<_}
 use native.Mathlib.Omega.{arith}
 use lib.ListN.{length, getD}
+use mathlib.Core.Bool.{true}
+use Rattle.cells.specs.Ranges.{inRange}
 use Rattle.cells.specs.Fitted.{transmitterOf, receiverOf, masterOf}
 use Rattle.cells.specs.laws.FrameLaws.{memory-length-kept, receiver-found-kept}
 use Rattle.cells.specs.Layout.{countIn, holderIn, memoryLength}
@@ -16,7 +18,7 @@ use Rattle.delivery.specs.laws.Slices.{State}
 use Rattle.frames.specs.laws.Leaves.{Leaves}
 use Rattle.frames.specs.laws.Serving.{unit-for-kept}
 use Rattle.frames.specs.laws.Sides.{Sides}
-use Rattle.frames.specs.laws.Whole.{Whole, Kept, holder-most, kept-all, kept-then}
+use Rattle.frames.specs.laws.Kept.{Kept, holder-most, kept-all, kept-then}
 use Rattle.master.specs.Cycle.{cycleOf}
 use Rattle.master.specs.laws.Rotation.{rotated}
 use Rattle.receiver.specs.declared.side.Receiver.{Receiver}
@@ -46,7 +48,7 @@ module _ (p : Parties) (start : World) (o : Opens p start) (q : State) (w : Worl
   receiver-fitted = subst⁻¹ (λ (n : ℕ). p .receiver < n) (s .kept .count) (o .receiverFitted)
 
   pub master-fitted : p .master < countIn (w .cells)
-  master-fitted = omega (arith, holder-most (w .cells) (s .whole), s .mastered)
+  master-fitted = omega (arith, holder-most (w .cells) (s .ranged), s .mastered)
 
   pub length-same : (k : ℕ) → memoryLength (w .cells) k ≡ memoryLength (start .cells) k
   length-same = memory-length-kept (start .cells) (w .cells) (s .kept .own)
@@ -63,7 +65,7 @@ module _ (p : Parties) (start : World) (o : Opens p start) (q : State) (w : Worl
 -- ---- what leaves T and R as they were, of the cells alone
 
 pub record Spares (p : Parties) (cells after : List ℕ) : Type 0 where
-  pub whole : Whole after
+  pub ranged : inRange after ≡ true
   pub kept : Kept cells after
   pub holder : holderIn after ≡ holderIn cells
   pub transmitter : transmitterOf after (p .sender) ≡ transmitterOf cells (p .sender)
@@ -76,7 +78,7 @@ module _ (p : Parties) (start : World) (q : State) (w : World) (s : Standing p s
   pub spared : (after : List ℕ) → Spares p (w .cells) after → Standing p start q (withCells w after)
   spared after u =
       record {
-        whole = u .whole;
+        ranged = u .ranged;
         kept = kept-then (start .cells) (w .cells) after (s .kept) (u .kept);
         mastered = u .holder ∙ s .mastered;
         delivering =
@@ -88,7 +90,7 @@ module _ (p : Parties) (start : World) (q : State) (w : World) (s : Standing p s
   Undisturbed after = Spares p (w .cells) after × (cycleOf (masterOf after (p .master)) ≡ ringOf p w)
 
   pub nothing-done : Undisturbed (w .cells)
-  nothing-done = (record { whole = s .whole; kept = kept-all (w .cells); holder = refl; transmitter = refl; receiver = refl }, refl)
+  nothing-done = (record { ranged = s .ranged; kept = kept-all (w .cells); holder = refl; transmitter = refl; receiver = refl }, refl)
 
   pub undisturbed : (after : List ℕ) → Undisturbed after → Follows p start q w quiet (withCells w after)
   undisturbed after (u, same) = record { standing = spared after u; turning = same }
@@ -105,15 +107,15 @@ endsOn p sides memory =
     }
 
 module _ (p : Parties) (start : World) (o : Opens p start) (q : State) (w : World) (s : Standing p start q w) where
-  pub quiet-follows : {after : List ℕ} {sides : Sides} → Leaves (w .cells) after sides → sides .holder ≡ holderIn (w .cells)
+  pub quiet-follows : {touched : ℕ → Type 0} {after : List ℕ} {sides : Sides} → Leaves touched (w .cells) after sides → sides .holder ≡ holderIn (w .cells)
       → cycleOf (sides .master (p .master)) ≡ ringOf p w → (memory : ℕ → List ℕ) → Delivering (messageIn p start) q (endsOn p sides memory)
       → Follows p start q w quiet (record { cells = after; memory = memory })
-  quiet-follows {after} l holder cycle memory delivering =
+  quiet-follows {after = after} l holder cycle memory delivering =
       let h = l .holds in
       record {
         standing =
             record {
-              whole = l .whole;
+              ranged = l .ranged;
               kept = kept-then (start .cells) (w .cells) after (s .kept) (l .kept);
               mastered = h .holder ∙ holder ∙ s .mastered;
               delivering =

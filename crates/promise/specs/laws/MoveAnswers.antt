@@ -2,7 +2,7 @@
 -- Assumes nothing.
 use mathlib.Core.Bool.{not}
 use mathlib.Core.List.{List}
-use mathlib.Core.Path.{_≡_, refl, subst}
+use mathlib.Core.Path.{_≡_, refl, sym, subst, _∙_}
 use Prim.Native.Nat.{ℕ}
 use native.Mathlib.Omega.{arith}
 use lib.Dec.{leb, ltb}
@@ -13,6 +13,7 @@ use Rattle.cells.specs.Ranges.{inRange}
 use Rattle.delivery.specs.laws.Calls.{MovedUntil4}
 use Rattle.delivery.specs.laws.Slices.{State}
 use Rattle.laws.specs.Pick.{either}
+use Rattle.moves.specs.laws.Nothing.{transmitter-answers, receiver-answers}
 use Rattle.pcl.specs.Numbers.{moveCallNumber}
 use Rattle.pcl.specs.Sides.{moveCall}
 use Rattle.pcl.specs.declared.answers.MoveCall.{MoveCall}
@@ -37,7 +38,7 @@ module _ (cells memory : List ℕ) (unit : ℕ) where
       λ r. moveCallNumber (r .0) ≡ 4 → T.moved (transmitterOf cells unit) memory (memoryLength cells unit) .answer ≡ Move.Nothing in
       either P (not (inRange cells)) (λ e h. absurd (omega arith))
       (λ e. either P (leb (countIn cells) unit) (λ e h. absurd (omega arith))
-      (λ e. either P (ltb (length memory) (memoryLength cells unit)) (λ e h. absurd (omega arith)) (λ e. nothing _)))
+      (λ e. either P (ltb (length memory) (memoryLength cells unit)) (λ e h. absurd (omega arith)) (λ e h. sym (transmitter-answers cells memory unit) ∙ nothing _ h)))
 
   receiver-4 : moveCallNumber (moveCall cells memory unit 1 .0) ≡ 4 → R.moved (receiverOf cells unit) memory (memoryLength cells unit) .0 .answer ≡ Move.Nothing
   receiver-4 =
@@ -45,7 +46,7 @@ module _ (cells memory : List ℕ) (unit : ℕ) where
       λ r. moveCallNumber (r .0) ≡ 4 → R.moved (receiverOf cells unit) memory (memoryLength cells unit) .0 .answer ≡ Move.Nothing in
       either P (not (inRange cells)) (λ e h. absurd (omega arith))
       (λ e. either P (leb (countIn cells) unit) (λ e h. absurd (omega arith))
-      (λ e. either P (ltb (length memory) (memoryLength cells unit)) (λ e h. absurd (omega arith)) (λ e. nothing _)))
+      (λ e. either P (ltb (length memory) (memoryLength cells unit)) (λ e h. absurd (omega arith)) (λ e h. sym (receiver-answers cells memory unit) ∙ nothing _ h)))
 
 -- "both ends have moved until 4"
 pub moved-until-4 : (p : Parties) (start : World) (o : Opens p start) (q : State) (w : World) (s : Standing p start q w)

@@ -11,6 +11,7 @@ use Rattle.cells.specs.Fitted.{transmitterOf, receiverOf}
 use Rattle.cells.specs.Layout.{countIn, memoryLength}
 use Rattle.cells.specs.Ranges.{inRange}
 use Rattle.delivery.specs.Ends.{Ends, Message}
+use Rattle.words.specs.declared.answers.Move.{Move}
 use Rattle.promise.specs.Kinds.{quiet}
 use Rattle.delivery.specs.laws.Invariant.{Delivering}
 use Rattle.delivery.specs.laws.Moves.{receiver-moves, transmitter-moves}
@@ -20,7 +21,7 @@ use Rattle.frames.specs.laws.Moves.{receiver-move, transmitter-move}
 use Rattle.frames.specs.laws.Sides.{replaced-other, replaced-same}
 use Rattle.laws.specs.Pick.{by, either, pick}
 use Rattle.moves.specs.Moving as Moving
-use Rattle.moves.specs.laws.Nothing.{receiver-nothing}
+use Rattle.moves.specs.laws.Nothing.{hasMoved, receiver-answers, receiver-memory, receiver-stays}
 use Rattle.outcomes.specs.Unchanged.{leavesAll}
 use Rattle.outcomes.specs.laws.RefusedSides.{nothing}
 use Rattle.pcl.specs.Numbers.{moveCallNumber}
@@ -68,7 +69,7 @@ module _ (p : Parties) (start : World) (o : Opens p start) (q : State) (w : Worl
 
   not-moved : (answer : MoveCall) → Follows p start q w quiet (movedBy w unit (answer, cells, memory))
   not-moved answer =
-      quiet-follows p start o q w s (stays (s .whole)) refl refl (withMemory (w .memory) unit memory)
+      quiet-follows p start o q w s (stays (s .ranged)) refl refl (withMemory (w .memory) unit memory)
       (with-unwritten (x .transmitter) (x .receiver) (s .delivering))
 
   module _ (fitted : unit < countIn cells) where
@@ -77,7 +78,7 @@ module _ (p : Parties) (start : World) (o : Opens p start) (q : State) (w : Worl
     sent : Follows p start q w quiet (movedBy w unit (sentBy memory (Moving.transmitterMoved cells memory unit)))
     sent =
         let side = T.moved (transmitterOf cells unit) memory (memoryLength cells unit) .side in
-        quiet-follows p start o q w s (transmitter-move cells (s .whole) memory unit fitted) refl refl (withMemory (w .memory) unit memory)
+        quiet-follows p start o q w s (transmitter-move cells (s .ranged) memory unit fitted) refl refl (withMemory (w .memory) unit memory)
         (with-unwritten _ (x .receiver)
         (by (eqb (p .sender) unit)
         (λ e.
@@ -95,6 +96,13 @@ module _ (p : Parties) (start : World) (o : Opens p start) (q : State) (w : Worl
     abbrev both : RD.Moved × List ℕ
     both = R.moved (receiverOf cells unit) memory (memoryLength cells unit)
 
+    -- what the memory of the unit becomes
+    abbrev new : List ℕ
+    new = Moving.receiverMoved cells memory unit .2
+
+    new-is : new ≡ both .1
+    new-is = receiver-memory cells memory unit
+
     abbrev afterReceiver : World
     afterReceiver = movedBy w unit (receivedBy (Moving.receiverMoved cells memory unit))
 
@@ -106,21 +114,23 @@ module _ (p : Parties) (start : World) (o : Opens p start) (q : State) (w : Worl
         let Put : ℕ → RD.Moved × List ℕ → Type 0 = λ k v.
         Delivering m q
         (record { transmitter = x .transmitter; receiver = v .0 .side; sending = pick (eqb (p .sender) k) (v .1) (x .sending); receiving = v .1 }) in
-        quiet-follows p start o q w s (receiver-move cells (s .whole) memory unit fitted) refl refl (withMemory (w .memory) unit (both .1))
+        quiet-follows p start o q w s (receiver-move cells (s .ranged) memory unit fitted) refl refl (withMemory (w .memory) unit new)
         (rw (eq-eqb (p .receiver) unit mine)
-        (subst (λ (k : ℕ). Put k both) mine (subst (Put (p .receiver)) same (receiver-moves m q x (s .delivering)))))
+        (subst⁻¹ (λ (l : List ℕ). Delivering m q (record { transmitter = x .transmitter; receiver = both .0 .side; sending = pick (eqb (p .sender) unit) l (x .sending); receiving = l })) new-is
+        (subst (λ (k : ℕ). Put k both) mine (subst (Put (p .receiver)) same (receiver-moves m q x (s .delivering))))))
 
     -- a receiver's move that is not done leaves the memory
-    refused-keeps : leavesAll (moveCallNumber (MoveCall.Side (both .0 .answer))) ≡ true → SentKept p m w afterReceiver
+    refused-keeps : leavesAll (moveCallNumber (MoveCall.Side (Moving.receiverMoved cells memory unit .0))) ≡ true → SentKept p m w afterReceiver
     refused-keeps refused i h =
         ap (λ (l : List ℕ). getD l (m .source + i) 0)
-        (replaced-same (w .memory) unit (both .1) (p .sender) (λ e. ap (λ (v : RD.Moved × List ℕ). v .1) (receiver-nothing (receiverOf cells unit) memory (memoryLength cells unit) (nothing (both .0 .answer) refused))))
+        (replaced-same (w .memory) unit new (p .sender)
+        (λ e. ap (λ (v : Move × List ℕ × List ℕ). v .2) (receiver-stays cells memory unit (ap hasMoved (sym (receiver-answers cells memory unit)) ∙ nothing (Moving.receiverMoved cells memory unit .0) refused))))
 
     received-elsewhere : (p .receiver ≡ unit → ⊥) → SentKept p m w afterReceiver → Follows p start q w quiet afterReceiver
     received-elsewhere theirs kept =
-        quiet-follows p start o q w s (receiver-move cells (s .whole) memory unit fitted) refl refl (withMemory (w .memory) unit (both .1))
-        (subst⁻¹ (λ (r : Receiver). Delivering m q (record { transmitter = x .transmitter; receiver = r; sending = withMemory (w .memory) unit (both .1) (p .sender); receiving = withMemory (w .memory) unit (both .1) (p .receiver) }))
-        (replaced-other (receiverOf cells) unit (both .0 .side) (p .receiver) theirs) (written-elsewhere p start q w s unit (both .1) theirs kept))
+        quiet-follows p start o q w s (receiver-move cells (s .ranged) memory unit fitted) refl refl (withMemory (w .memory) unit new)
+        (subst⁻¹ (λ (r : Receiver). Delivering m q (record { transmitter = x .transmitter; receiver = r; sending = withMemory (w .memory) unit new (p .sender); receiving = withMemory (w .memory) unit new (p .receiver) }))
+        (replaced-other (receiverOf cells) unit (both .0 .side) (p .receiver) theirs) (written-elsewhere p start q w s unit new theirs kept))
 
 -- ---- the call
 
@@ -142,7 +152,7 @@ module _ (p : Parties) (start : World) (o : Opens p start) (q : State) (w : Worl
       by (eqb (p .receiver) unit) (λ mine. received p start o q w s unit fitted (eqb-true (p .receiver) unit mine))
       (λ other.
       let theirs = eqb-false (p .receiver) unit other in
-      let answer = both p start o q w s unit fitted .0 .answer in
+      let answer = Moving.receiverMoved (w .cells) (w .memory unit) unit .0 in
       received-elsewhere p start o q w s unit fitted theirs
       (by (leavesAll (moveCallNumber (MoveCall.Side answer))) (refused-keeps p start o q w s unit fitted)
       (λ done.

@@ -7,6 +7,7 @@ use Prim.Native.Nat.{ℕ, _<_}
 use native.Mathlib.Omega.{arith}
 use borrow.Author.Tests.{eqb-true}
 use lib.ListN.{length, getD}
+use Rattle.frames.specs.laws.Leaves.{stays, still-fitted, transmitter-within, receiver-within}
 use Rattle.bus.specs.Slice.{slicePassed}
 use Rattle.cells.specs.Fitted.{transmitterOf, receiverOf}
 use Rattle.delivery.specs.laws.Calls.{with}
@@ -16,7 +17,7 @@ use Rattle.delivery.specs.laws.Opening as Delivery
 use Rattle.delivery.specs.laws.Slices as Slices
 use Rattle.frames.specs.laws.Serving.{heardOn, unitFor}
 use Rattle.frames.specs.laws.Slices.{SlicePasses, nextAddress, nextOn, slice-heard}
-use Rattle.frames.specs.laws.Whole.{kept-all}
+use Rattle.frames.specs.laws.Kept.{kept-all}
 use Rattle.master.specs.laws.Rotation.{Among, rotated}
 use Rattle.pcl.specs.Link.{sliceCall}
 use Rattle.pcl.specs.declared.answers.SliceCall.{SliceCall}
@@ -39,13 +40,13 @@ module _ (p : Parties) (start : World) (o : Opens p start) where
   address = nextAddress cells (p .master)
 
   call : sliceCall cells 0 0 ≡ (SliceCall.Passed (slotIn cells 0 false (p .master)), slicePassed cells 0 false .1)
-  call = slice-call cells (o .whole) 0 0 (p .master) (o .mastered) refl
+  call = slice-call cells (o .ranged) 0 0 (p .master) (o .mastered) refl
 
   heard : SlicePasses cells 0 false (p .master) (heardOn (nextOn cells (p .master)) (p .sender) (p .receiver) address 0 false)
   heard =
-      slice-heard cells (o .whole) 0 false (p .master) (o .mastered) (p .sender) (ap (unitFor cells) (o .given) ∙ o .sends)
-      (o .whole .units (p .sender) (o .senderFitted) .number) (p .receiver) (rw (o .conditions .transmitterClosed) (o .receives))
-      (o .whole .units (p .receiver) (o .receiverFitted) .number)
+      slice-heard cells (o .ranged) 0 false (p .master) (o .mastered) (p .sender) (ap (unitFor cells) (o .given) ∙ o .sends)
+      (still-fitted (stays (o .ranged)) (p .sender) (o .senderFitted) .number) (p .receiver) (rw (o .conditions .transmitterClosed) (o .receives))
+      (still-fitted (stays (o .ranged)) (p .receiver) (o .receiverFitted) .number)
 
   -- a unit that sends to itself has one memory
   one-memory : m .shared ≡ true → start .memory (p .sender) ≡ start .memory (p .receiver)
@@ -58,7 +59,7 @@ module _ (p : Parties) (start : World) (o : Opens p start) where
       let r = receiverOf cells (p .receiver) in
       let d =
       Delivery.opened x (m .from) (m .sendingLength) (m .receivingLength) (m .shared) (o .conditions) (o .answered) one-memory
-      (o .whole .units (p .sender) (o .senderFitted) .transmitter) (o .whole .units (p .receiver) (o .receiverFitted) .receiver) in
+      (transmitter-within (stays (o .ranged)) (p .sender) (o .senderFitted)) (receiver-within (stays (o .ranged)) (p .receiver) (o .receiverFitted)) in
       subst⁻¹ (λ (c : SliceCall × List ℕ). Standing p start Slices.opened (withCells start (c .1))) call
       (exchange-stands p start start (kept-all cells) (o .mastered) (o .senderFitted) (o .receiverFitted) 0 false Slices.opened heard
       (subst⁻¹ (λ (a : ℕ). Delivering m Slices.opened (with x (exchanged t r a 0 false))) (o .given) d))
@@ -67,7 +68,7 @@ module _ (p : Parties) (start : World) (o : Opens p start) where
 
   pub in-ring : Among (m .from) (ringOf p start)
   in-ring =
-      let first : getD (ringOf p start) 0 0 ≡ m .from = sym (ring-first cells (o .whole) 0 false (p .master) (o .mastered)) ∙ o .given in
+      let first : getD (ringOf p start) 0 0 ≡ m .from = sym (ring-first cells (o .ranged) 0 false (p .master) (o .mastered)) ∙ o .given in
       (0, some (ringOf p start) first, first)
     where
       some : (ring : List ℕ) → getD ring 0 0 ≡ m .from → 0 < length ring
@@ -77,4 +78,4 @@ module _ (p : Parties) (start : World) (o : Opens p start) where
   pub opened-turns : ringOf p (step (slice 0 0) start) ≡ rotated (ringOf p start)
   opened-turns =
       subst⁻¹ (λ (c : SliceCall × List ℕ). ringOf p (withCells start (c .1)) ≡ rotated (ringOf p start)) call
-      (ring-turns cells (o .whole) 0 false (p .master) (o .mastered))
+      (ring-turns cells (o .ranged) 0 false (p .master) (o .mastered))

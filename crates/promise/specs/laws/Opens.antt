@@ -14,13 +14,12 @@ use Rattle.bus.specs.declared.slice.Slot.{Slot}
 use Rattle.cells.specs.Fitted.{transmitterOf, receiverOf}
 use Rattle.cells.specs.Layout.{countIn, holderIn, receiverAddress, transmitterAddress}
 use Rattle.cells.specs.Ranges.{inRange}
-use Rattle.cells.specs.Search as Search
+use Rattle.cells.specs.laws.SearchLaws as Search
 use Rattle.cells.specs.Search.{firstReceiver}
 use Rattle.frames.specs.laws.Serving.{receiverFor, servedOn, unitFor}
 use Rattle.frames.specs.laws.Sides.{Sides}
 use Rattle.frames.specs.laws.Slices.{nextAddress, nextOn}
-use Rattle.frames.specs.laws.Whole as Frames
-use Rattle.frames.specs.laws.Whole.{Whole}
+use Rattle.cells.specs.Ranges.{inRange}
 use Rattle.laws.specs.Pick.{by, either, here, past}
 use Rattle.pcl.specs.Link.{passedBy, sliceCall}
 use Rattle.pcl.specs.Numbers.{addressOf, sliceNumber, sliceValue}
@@ -37,7 +36,7 @@ use Rattle.promise.specs.World.{World}
 
 -- all that the proof takes from an opening
 pub record Opens (p : Parties) (w : World) : Type 0 where
-  pub whole : Whole (w .cells)
+  pub ranged : inRange (w .cells) ≡ true
   pub senderFitted : p .sender < countIn (w .cells)
   pub receiverFitted : p .receiver < countIn (w .cells)
   pub mastered : holderIn (w .cells) ≡ p .master + 1
@@ -89,7 +88,7 @@ module _ (cells : List ℕ) (done : sliceNumber (sliceCall cells 0 0 .0) ≡ 0) 
 
 -- ---- the opening
 
-module _ (w : World) (all : Whole (w .cells)) (m from : ℕ) (mastered : holderIn (w .cells) ≡ m + 1) (same : nextAddress (w .cells) m ≡ from)
+module _ (w : World) (ok : inRange (w .cells) ≡ true) (m from : ℕ) (mastered : holderIn (w .cells) ≡ m + 1) (same : nextAddress (w .cells) m ≡ from)
     (b : servedOn (w .cells) (nextOn (w .cells) m) from 0 false .0 .b ≡ 3) where
   abbrev cells : List ℕ
   cells = w .cells
@@ -103,7 +102,7 @@ module _ (w : World) (all : Whole (w .cells)) (m from : ℕ) (mastered : holderI
       let t = transmitterOf cells (p .sender) in
       let has : transmitterAddress cells (p .sender) ≡ from = Search.found (transmitterAddress cells) from (countIn cells) 0 near in
       record {
-        whole = all;
+        ranged = ok;
         senderFitted = omega (arith, Search.fitted (transmitterAddress cells) from (countIn cells) 0 near);
         receiverFitted = omega (arith, Search.fitted (receiverAddress cells) (destinationOf t) (countIn cells) 0 nearThere);
         mastered = mastered;
@@ -132,13 +131,13 @@ opens w o =
     let cells = w .cells in
     let m = holderIn cells - 1 in
     let from = addressOf (sliceValue (undamaged w)) in
-    let all = Frames.whole cells (ranged cells (o .answered)) (o .words) in
+    let ok = ranged cells (o .answered) in
     let mastered = held cells (o .answered) in
     let (g, is) : (g : Given) × (undamaged w ≡ SliceCall.Passed (Slot.Given g)) = Values.given-by (undamaged w) (o .answered) in
-    let shows = Values.slice-shows cells (o .words) 0 0 g is in
+    let shows = Values.slice-shows cells 0 0 g is in
     let slot : slotIn cells 0 false m ≡ Slot.Given g =
-    ap (λ (r : SliceCall × List ℕ). slotIs (r .0)) (sym (slice-call cells all 0 0 m mastered refl)) ∙ ap slotIs is in
+    ap (λ (r : SliceCall × List ℕ). slotIs (r .0)) (sym (slice-call cells ok 0 0 m mastered refl)) ∙ ap slotIs is in
     let same : nextAddress cells m ≡ from = ap addressGiven slot ∙ sym (shows .address) in
-    found w all m from mastered same
+    found w ok m from mastered same
     (subst (λ (a : ℕ). servedOn cells (nextOn cells m) a 0 false .0 .b ≡ 3) same (ap answerGiven slot ∙ sym (shows .b) ∙ o .acknowledged))
     (o .conditions)

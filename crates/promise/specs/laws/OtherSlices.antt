@@ -4,10 +4,11 @@ use mathlib.Core.Bool.{Bool}
 use mathlib.Core.List.{List}
 use mathlib.Core.Path.{_≡_, refl, ap, subst, subst⁻¹, sym, _∙_}
 use Prim.Native.Nat.{ℕ, _<_}
+use Rattle.frames.specs.laws.Leaves.{stays, still-fitted}
 use Rattle.bus.specs.Slice.{slicePassed}
 use Rattle.cells.specs.Fitted.{transmitterOf, receiverOf}
 use Rattle.cells.specs.Layout.{countIn, transmitterAddress}
-use Rattle.cells.specs.Search as Search
+use Rattle.cells.specs.laws.SearchLaws as Search
 use Rattle.delivery.specs.Ends.{Ends, Message}
 use Rattle.promise.specs.Kinds.{other}
 use Rattle.delivery.specs.laws.Others.{others}
@@ -38,7 +39,7 @@ module _ (p : Parties) (start : World) (o : Opens p start) (q : State) (w : Worl
   after = slicePassed (w .cells) mask parity .1
 
   sender-near : p .sender < 16
-  sender-near = s .whole .units (p .sender) (sender-fitted p start o q w s) .number
+  sender-near = still-fitted (stays (s .ranged)) (p .sender) (sender-fitted p start o q w s) .number
 
   module _ (theirs : address ≡ m .from → ⊥) where
     -- T is not the transmitter addressed: no unit has two addresses
@@ -51,14 +52,14 @@ module _ (p : Parties) (start : World) (o : Opens p start) (q : State) (w : Worl
     spares : Spares p (w .cells) after
     spares =
         let cells = w .cells in
-        let passes = slice-passes cells (s .whole) mask parity (p .master) (s .mastered) in
+        let passes = slice-passes cells (s .ranged) mask parity (p .master) (s .mastered) in
         let unit = unitFor cells address in
         let there = receiverFor cells (transmitterOf cells unit) in
         record {
-          whole = passes .leaves .whole;
+          ranged = passes .leaves .ranged;
           kept = passes .leaves .kept;
-          holder = slice-holder cells (s .whole) mask parity (p .master) (s .mastered);
-          transmitter = slice-other-transmitter cells (s .whole) mask parity (p .master) (s .mastered) (p .sender) (sender-fitted p start o q w s) not-sender;
+          holder = slice-holder cells (s .ranged) mask parity (p .master) (s .mastered);
+          transmitter = slice-other-transmitter cells (s .ranged) mask parity (p .master) (s .mastered) (p .sender) (sender-fitted p start o q w s) not-sender;
           receiver =
               passes .leaves .holds .receiver (p .receiver) (receiver-fitted p start o q w s)
               ∙ in-each cells (nextOn cells (p .master)) address mask parity (λ (a : Sides). a .receiver (p .receiver) ≡ receiverOf cells (p .receiver)) refl (λ near. refl)
@@ -71,7 +72,7 @@ module _ (p : Parties) (start : World) (o : Opens p start) (q : State) (w : Worl
     other-follows = record {
       standing = spared p start q w s after spares;
       turning = (
-        λ e. theirs (ring-first (w .cells) (s .whole) mask parity (p .master) (s .mastered) ∙ e),
-        ring-turns (w .cells) (s .whole) mask parity (p .master) (s .mastered),
+        λ e. theirs (ring-first (w .cells) (s .ranged) mask parity (p .master) (s .mastered) ∙ e),
+        ring-turns (w .cells) (s .ranged) mask parity (p .master) (s .mastered),
       );
     }

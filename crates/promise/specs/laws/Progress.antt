@@ -48,11 +48,11 @@ module _ (p : Parties) (start : World) (o : Opens p start) where
   -- ---- move until 4
 
   module _ (k j : ℕ) (q : State) where
-    after-loading : (fuel : ℕ) (w : World) → Ready p start o j q w → 64 ≤ fuel + transmitterOf (w .cells) (p .sender) .silo .held
+    after-loading : (fuel : ℕ) (w : World) → Ready p start o j q w → 64 ≤ fuel + transmitterOf (w .cells) (p .sender) .end .silo .held
         → ((y : World) → Ready p start o j q y → T.mayMove (transmitterOf (y .cells) (p .sender)) ≡ false → Can k y) → Can k w
     after-loading zero w r full then =
         by (T.mayMove (transmitterOf (w .cells) (p .sender)))
-        (λ may. absurd (omega (arith, ltb-true (transmitterOf (w .cells) (p .sender) .silo .held) 64 (Loading.loaded-and-room (transmitterOf (w .cells) (p .sender)) may .1))))
+        (λ may. absurd (omega (arith, ltb-true (transmitterOf (w .cells) (p .sender) .end .silo .held) 64 (Loading.loaded-and-room (transmitterOf (w .cells) (p .sender)) may .1))))
         (λ waits. then w r waits)
     after-loading (suc fuel) w r enough then =
         by (T.mayMove (transmitterOf (w .cells) (p .sender)))
@@ -62,13 +62,13 @@ module _ (p : Parties) (start : World) (o : Opens p start) where
         (move (p .sender) 0 ∷ rest .0, (sender-may p start o j q w r, rest .1), rest .2))
         (λ waits. then w r waits)
 
-    after-storing : (fuel : ℕ) (w : World) → Ready p start o j q w → receiverOf (w .cells) (p .receiver) .silo .held ≤ fuel
+    after-storing : (fuel : ℕ) (w : World) → Ready p start o j q w → receiverOf (w .cells) (p .receiver) .end .silo .held ≤ fuel
         → T.mayMove (transmitterOf (w .cells) (p .sender)) ≡ false
         → ((y : World) → Ready p start o j q y → T.mayMove (transmitterOf (y .cells) (p .sender)) ≡ false → R.mayMove (receiverOf (y .cells) (p .receiver)) ≡ false → Can k y)
         → Can k w
     after-storing zero w r empty waits then =
         by (R.mayMove (receiverOf (w .cells) (p .receiver)))
-        (λ may. absurd (omega (arith, eqb-false (receiverOf (w .cells) (p .receiver) .silo .held) 0 (Storing.some-word (receiverOf (w .cells) (p .receiver)) may))))
+        (λ may. absurd (omega (arith, eqb-false (receiverOf (w .cells) (p .receiver) .end .silo .held) 0 (Storing.some-word (receiverOf (w .cells) (p .receiver)) may))))
         (λ stopped. then w r waits stopped)
     after-storing (suc fuel) w r enough waits then =
         by (R.mayMove (receiverOf (w .cells) (p .receiver)))
@@ -98,7 +98,7 @@ module _ (p : Parties) (start : World) (o : Opens p start) where
         → ((y : World) → Ready p start o j q y → Allowed p m (slice 0 0) y → kindOf (m .from) (slice 0 0) y ≡ other → Can (suc k) y) → Can (suc k) w
     a-slice j q w r theirs =
         after-loading (suc k) j q 64 w r (omega arith)
-        (λ x e waits. after-storing (suc k) j q (receiverOf (x .cells) (p .receiver) .silo .held) x e (omega arith) waits
+        (λ x e waits. after-storing (suc k) j q (receiverOf (x .cells) (p .receiver) .end .silo .held) x e (omega arith) waits
         (λ y f waits stopped.
         let a = slice-may p start o j q y f waits stopped in
         by (eqb (nextAddress (y .cells) (p .master)) (m .from)) (λ g. taken j q y f a (slice-comes p start o j q y f ∙ rw g)) (λ g. theirs y f a (slice-comes p start o j q y f ∙ rw g))))

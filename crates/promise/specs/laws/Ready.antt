@@ -76,13 +76,13 @@ module _ (p : Parties) (start : World) (o : Opens p start) where
     sender-calls : moveCall (w .cells) (w .memory (p .sender)) (p .sender) 0
         ≡ sentBy (w .memory (p .sender)) (transmitterMoved (w .cells) (w .memory (p .sender)) (p .sender))
     sender-calls =
-        sender-call (w .cells) (r .standing .whole) (w .memory (p .sender)) (p .sender) (sender-fitted p start o q w (r .standing))
+        sender-call (w .cells) (r .standing .ranged) (w .memory (p .sender)) (p .sender) (sender-fitted p start o q w (r .standing))
         (subst⁻¹ (λ (n : ℕ). n ≤ length (w .memory (p .sender))) (length-same p start o q w (r .standing) (p .sender)) (r .lentSender))
 
     receiver-calls : moveCall (w .cells) (w .memory (p .receiver)) (p .receiver) 1
         ≡ receivedBy (receiverMoved (w .cells) (w .memory (p .receiver)) (p .receiver))
     receiver-calls =
-        receiver-call (w .cells) (r .standing .whole) (w .memory (p .receiver)) (p .receiver) (receiver-fitted p start o q w (r .standing))
+        receiver-call (w .cells) (r .standing .ranged) (w .memory (p .receiver)) (p .receiver) (receiver-fitted p start o q w (r .standing))
         (subst⁻¹ (λ (n : ℕ). n ≤ length (w .memory (p .receiver))) (length-same p start o q w (r .standing) (p .receiver)) (r .lentReceiver))
 
     pub sender-may : Allowed p m (move (p .sender) 0) w
@@ -95,22 +95,22 @@ module _ (p : Parties) (start : World) (o : Opens p start) where
 
     -- T's move that is done puts a word into its silo, R's takes one out and leaves T
 
-    pub one-in : T.mayMove t ≡ true → transmitterOf (step (move (p .sender) 0) w .cells) (p .sender) .silo .held ≡ t .silo .held + 1
+    pub one-in : T.mayMove t ≡ true → transmitterOf (step (move (p .sender) 0) w .cells) (p .sender) .end .silo .held ≡ t .end .silo .held + 1
     one-in may =
         let there = sender-fitted p start o q w (r .standing) in
-        ap (λ (v : MoveCall × List ℕ × List ℕ). transmitterOf (v .1) (p .sender) .silo .held) sender-calls
-        ∙ ap (λ (x : Transmitter). x .silo .held)
-        (transmitter-move (w .cells) (r .standing .whole) (w .memory (p .sender)) (p .sender) there .holds .transmitter (p .sender) there
+        ap (λ (v : MoveCall × List ℕ × List ℕ). transmitterOf (v .1) (p .sender) .end .silo .held) sender-calls
+        ∙ ap (λ (x : Transmitter). x .end .silo .held)
+        (transmitter-move (w .cells) (r .standing .ranged) (w .memory (p .sender)) (p .sender) there .holds .transmitter (p .sender) there
         ∙ replaced-here (transmitterOf (w .cells)) (p .sender) _
         ∙ ap (λ (n : ℕ). T.moved t (w .memory (p .sender)) n .side) (length-same p start o q w (r .standing) (p .sender)))
         ∙ one-more m q (endsOf p w) (r .standing .delivering) may
 
-    pub one-out : R.mayMove u ≡ true → receiverOf (step (move (p .receiver) 1) w .cells) (p .receiver) .silo .held ≡ u .silo .held - 1
+    pub one-out : R.mayMove u ≡ true → receiverOf (step (move (p .receiver) 1) w .cells) (p .receiver) .end .silo .held ≡ u .end .silo .held - 1
     one-out may =
         let there = receiver-fitted p start o q w (r .standing) in
-        ap (λ (v : MoveCall × List ℕ × List ℕ). receiverOf (v .1) (p .receiver) .silo .held) receiver-calls
-        ∙ ap (λ (x : Receiver). x .silo .held)
-        (receiver-move (w .cells) (r .standing .whole) (w .memory (p .receiver)) (p .receiver) there .holds .receiver (p .receiver) there
+        ap (λ (v : MoveCall × List ℕ × List ℕ). receiverOf (v .1) (p .receiver) .end .silo .held) receiver-calls
+        ∙ ap (λ (x : Receiver). x .end .silo .held)
+        (receiver-move (w .cells) (r .standing .ranged) (w .memory (p .receiver)) (p .receiver) there .holds .receiver (p .receiver) there
         ∙ replaced-here (receiverOf (w .cells)) (p .receiver) _
         ∙ ap (λ (n : ℕ). R.moved u (w .memory (p .receiver)) n .0 .side) (length-same p start o q w (r .standing) (p .receiver)))
         ∙ one-fewer m q (endsOf p w) (r .standing .delivering) may
@@ -118,7 +118,7 @@ module _ (p : Parties) (start : World) (o : Opens p start) where
     pub sender-left : transmitterOf (step (move (p .receiver) 1) w .cells) (p .sender) ≡ t
     sender-left =
         ap (λ (v : MoveCall × List ℕ × List ℕ). transmitterOf (v .1) (p .sender)) receiver-calls
-        ∙ receiver-move (w .cells) (r .standing .whole) (w .memory (p .receiver)) (p .receiver) (receiver-fitted p start o q w (r .standing)) .holds .transmitter (p .sender) (sender-fitted p start o q w (r .standing))
+        ∙ receiver-move (w .cells) (r .standing .ranged) (w .memory (p .receiver)) (p .receiver) (receiver-fitted p start o q w (r .standing)) .holds .transmitter (p .sender) (sender-fitted p start o q w (r .standing))
 
     -- ---- where both have moved until 4, a slice may come
 
@@ -132,4 +132,4 @@ module _ (p : Parties) (start : World) (o : Opens p start) where
         }
 
     pub slice-comes : kindOf (m .from) (slice 0 0) w ≡ pick (eqb (nextAddress (w .cells) (p .master)) (m .from)) own other
-    slice-comes = slice-kind (w .cells) (r .standing .whole) 0 0 (p .master) (r .standing .mastered) refl (m .from)
+    slice-comes = slice-kind (w .cells) (r .standing .ranged) 0 0 (p .master) (r .standing .mastered) refl (m .from)

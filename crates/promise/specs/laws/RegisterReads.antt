@@ -1,20 +1,21 @@
 -- What the calls of a host show of a fitted unit: the bits of TSR, RSR and TMMR, IE in TCR and RCR, and the interrupt levels.
 -- Assumes nothing.
-use mathlib.Core.Bool.{Bool, false, not}
+use mathlib.Core.Bool.{Bool, false, not, true}
 use mathlib.Core.List.{List}
 use mathlib.Core.Path.{_≡_, refl, ap, sym, _∙_}
 use Prim.Native.Nat.{ℕ, _<_}
 use native.Mathlib.Omega.{arith}
 use borrow.Author.Tests.{leb-true}
 use lib.Dec.{leb}
+use Rattle.frames.specs.laws.Leaves.{transmitter-within, receiver-within, stays}
 use Rattle.accesses.specs.Masters.{mastershipOf}
 use Rattle.accesses.specs.Reading.{unitRead}
 use Rattle.cells.specs.Fitted.{transmitterOf, receiverOf, masterOf}
 use Rattle.cells.specs.Layout.{countIn, holderIn}
-use Rattle.frames.specs.laws.Whole.{Whole}
+use Rattle.cells.specs.Ranges.{inRange}
 use Rattle.laws.specs.Bits.{bitAt}
-use Rattle.laws.specs.Pick.{by, past}
-use Rattle.master.specs.Reading.{tmmrWord}
+use Rattle.laws.specs.Pick.{by, past, either}
+use Rattle.master.specs.Reading.{tmmrWord, removes}
 use Rattle.master.specs.Ring.{address}
 use Rattle.master.specs.Section.{hasMaster}
 use Rattle.master.specs.Writing.{takesAddress}
@@ -40,12 +41,12 @@ use Rattle.promise.specs.World.{World}
 
 -- ---- a call at a fitted unit is what its side gives
 
-module _ (w : World) (whole : Whole (w .cells)) (unit : ℕ) (fitted : unit < countIn (w .cells)) where
+module _ (w : World) (ok : inRange (w .cells) ≡ true) (unit : ℕ) (fitted : unit < countIn (w .cells)) where
   some : leb (countIn (w .cells)) unit ≡ false
   some = by (leb (countIn (w .cells)) unit) (λ e. absurd (omega (arith, leb-true (countIn (w .cells)) unit e))) (λ e. e)
 
   read-is : (offset : ℕ) → readCall (w .cells) unit offset .0 ≡ ReadCall.Register (unitRead (w .cells) unit offset .0)
-  read-is offset = sym (ap (λ (r : ReadCall × List ℕ). r .0) (past _ (ap not (whole .ranged)) (past _ some refl)))
+  read-is offset = sym (ap (λ (r : ReadCall × List ℕ). r .0) (past _ (ap not ok) (past _ some refl)))
 
   shows : (offset place word : ℕ) (set : Bool) → unitRead (w .cells) unit offset .0 ≡ Read.Word word → bitAt word place ≡ set
       → Shows w unit offset place set
@@ -59,7 +60,7 @@ module _ (w : World) (whole : Whole (w .cells)) (unit : ℕ) (fitted : unit < co
   pub level-is : (side : ℕ) (level : Bool) → atSide side (LevelCall.Level (T.levelOf (transmitterOf (w .cells) unit))) (LevelCall.Level (R.levelOf (receiverOf (w .cells) unit))) LevelCall.NoUnit ≡ LevelCall.Level level
       → Level w unit side level
   level-is side level is =
-      let e : levelCall (w .cells) unit side ≡ LevelCall.Level level = sym (past _ (ap not (whole .ranged)) (past _ some refl)) ∙ is in
+      let e : levelCall (w .cells) unit side ≡ LevelCall.Level level = sym (past _ (ap not ok) (past _ some refl)) ∙ is in
       (ap levelNumber e, ap levelValue e)
 
   -- ---- TSR and RSR
@@ -79,8 +80,8 @@ module _ (w : World) (whole : Whole (w .cells)) (unit : ℕ) (fitted : unit < co
 
   tsr : StatusBits (TR.statusWord t) (t .outcome .busBusy) (t .outcome .softwareReject) (TS.isBusy t) (t .outcome .success) (TS.hasError t)
   tsr =
-      let h = whole .units unit fitted .transmitter .shown in
-      status-bits (t .shown .a) (t .shown .b) (h .codeA) (h .codeB) (t .outcome .busBusy) (t .outcome .softwareReject) (TS.isBusy t) (t .outcome .success)
+      let h = transmitter-within (stays ok) unit fitted .end .shown in
+      status-bits (t .end .shown .a) (t .end .shown .b) (h .codeA) (h .codeB) (t .outcome .busBusy) (t .outcome .softwareReject) (TS.isBusy t) (t .outcome .success)
       (TS.dataInReady t) (t .faults .overrun) (t .faults .timeOut) (t .faults .masterDown) (t .faults .transmissionError) (t .faults .memoryOverflow)
       (t .faults .nonexistentLocation) (TS.hasError t)
 
@@ -91,10 +92,10 @@ module _ (w : World) (whole : Whole (w .cells)) (unit : ℕ) (fitted : unit < co
   abbrev r : Receiver
   r = receiverOf (w .cells) unit
 
-  rsr : StatusBits (RR.statusWord r) (r .channel .opened) (r .outcome .rejectComplete) (RS.isBusy r) (r .outcome .success) (RS.hasError r)
+  rsr : StatusBits (RR.statusWord r) (r .end .opened) (r .outcome .rejectComplete) (RS.isBusy r) (r .outcome .success) (RS.hasError r)
   rsr =
-      let h = whole .units unit fitted .receiver .shown in
-      status-bits (r .shown .a) (r .shown .b) (h .codeA) (h .codeB) (r .channel .opened) (r .outcome .rejectComplete) (RS.isBusy r) (r .outcome .success)
+      let h = receiver-within (stays ok) unit fitted .end .shown in
+      status-bits (r .end .shown .a) (r .end .shown .b) (h .codeA) (h .codeB) (r .end .opened) (r .outcome .rejectComplete) (RS.isBusy r) (r .outcome .success)
       (RS.dataOutReady r) (r .faults .byteCountOverflow) (r .faults .timeOut) (r .faults .parity) (r .faults .transmissionError) (r .faults .memoryOverflow)
       (r .faults .nonexistentLocation) (RS.hasError r)
 
@@ -104,31 +105,32 @@ module _ (w : World) (whole : Whole (w .cells)) (unit : ℕ) (fitted : unit < co
 
   -- ---- CHN OPN
 
-  pub sender-channel : {opened : Bool} → t .channel .opened ≡ opened → Shows w unit 10 11 opened
+  pub sender-channel : {opened : Bool} → t .end .opened ≡ opened → Shows w unit 10 11 opened
   sender-channel {opened} so =
       let m = masterOf (w .cells) unit in
       let mastership = mastershipOf (holderIn (w .cells)) unit in
-      shows 10 11 (tmmrWord m mastership (t .channel .opened) (t .modes .readSilo)) opened refl
-      (channel-bit (address (oldest (m .addresses))) (omega arith) (hasMaster mastership) (m .secondary) (m .nowMaster) (t .channel .opened) (m .autoAddress)
+      let word = tmmrWord m mastership (t .end .opened) (t .modes .readSilo) in
+      shows 10 11 word opened (either (λ (p : Read × List ℕ). p .0 ≡ Read.Word word) (removes m (t .modes .readSilo)) (λ e. refl) (λ e. refl))
+      (channel-bit (address (oldest (m .addresses))) (omega arith) (hasMaster mastership) (m .secondary) (m .nowMaster) (t .end .opened) (m .autoAddress)
       (takesAddress m (t .modes .readSilo)) (not (isEmpty (m .addresses))) ∙ so)
 
-  pub receiver-channel : {opened : Bool} → r .channel .opened ≡ opened → Shows w unit 18 4 opened
+  pub receiver-channel : {opened : Bool} → r .end .opened ≡ opened → Shows w unit 18 4 opened
   receiver-channel {opened} so = shows 18 4 (RR.statusWord r) opened refl (rsr .bit4 ∙ so)
 
   -- ---- IE
 
   pub sender-enabled : bitRead w unit 0 6 ≡ t .modes .interruptEnable
   sender-enabled =
-      let h = whole .units unit fitted .transmitter in
+      let h = transmitter-within (stays ok) unit fitted in
       bit-is 0 6 (TR.controlWord t) refl
-      ∙ enabled-bit (t .commands .startTransmission) false (t .modes .inhibitIncrement) (not (isEmpty (t .silo))) (extensionOf (t .load .address .0))
+      ∙ enabled-bit (t .commands .startTransmission) false (t .modes .inhibitIncrement) (not (isEmpty (t .end .silo))) (extensionOf (t .end .load .address .0))
       (t .modes .interruptEnable) (t .modes .readSilo) (t .modes .destination) (t .commands .sendWord) (t .modes .memoryRequests) (t .modes .retryIfBusy)
-      (omega (arith, h .load .eighteenBits)) (h .destination)
+      (omega (arith, h .end .load .eighteenBits)) (h .destination)
 
   pub receiver-enabled : bitRead w unit 16 6 ≡ r .modes .interruptEnable
   receiver-enabled =
-      let h = whole .units unit fitted .receiver in
+      let h = receiver-within (stays ok) unit fitted in
       bit-is 16 6 (RR.controlWord r) refl
-      ∙ enabled-bit (r .commands .receiveData) false (r .modes .inhibitIncrement) (RS.dataInReady r) (extensionOf (r .load .address .0))
+      ∙ enabled-bit (r .commands .receiveData) false (r .modes .inhibitIncrement) (RS.dataInReady r) (extensionOf (r .end .load .address .0))
       (r .modes .interruptEnable) (r .modes .loadSilo) (r .modes .sender) (r .commands .receiveWord) (r .modes .memoryRequests) (r .modes .reject)
-      (omega (arith, h .load .eighteenBits)) (h .sender)
+      (omega (arith, h .end .load .eighteenBits)) (h .sender)

@@ -62,16 +62,16 @@ module _ (p : Parties) (start : World) (o : Opens p start) (q : State) (w : Worl
       let openedThere = c .inStep .listening .opened in
       record {
         status =
-            sender-status w (s .whole) (p .sender) there (c .noSuccess) (rw opened (or-true (t .commands .sendWord))) (d .sending .noReject) (d .sending .noError);
+            sender-status w (s .ranged) (p .sender) there (c .noSuccess) (rw opened (or-true (t .commands .sendWord))) (d .sending .noReject) (d .sending .noError);
         statusThere =
-            receiver-status w (s .whole) (p .receiver) far (c .noSuccessThere) (rw openedThere (or-true (r .commands .receiveWord))) (d .receiving .noReject) (d .receiving .noError);
-        opened = sender-channel w (s .whole) (p .sender) there opened;
-        openedThere = receiver-channel w (s .whole) (p .receiver) far openedThere;
+            receiver-status w (s .ranged) (p .receiver) far (c .noSuccessThere) (rw openedThere (or-true (r .commands .receiveWord))) (d .receiving .noReject) (d .receiving .noError);
+        opened = sender-channel w (s .ranged) (p .sender) there opened;
+        openedThere = receiver-channel w (s .ranged) (p .receiver) far openedThere;
         level =
-            level-is w (s .whole) (p .sender) there 0 false
+            level-is w (s .ranged) (p .sender) there 0 false
             (ap LevelCall.Level (quiet-sender t (d .sending .noError) (c .noSuccess) (d .sending .noReject) (c .notRefused)));
         levelThere =
-            level-is w (s .whole) (p .receiver) far 1 false
+            level-is w (s .ranged) (p .receiver) far 1 false
             (ap LevelCall.Level (quiet-receiver r (d .receiving .noError) (c .noSuccessThere) (d .receiving .noReject) (d .receiving .requests)));
       }
 
@@ -94,15 +94,15 @@ reported p start o w s =
     let far = receiver-fitted p start o State.done w s in
     record {
       status =
-          sender-status w (s .whole) (p .sender) there (c .success) (rw (c .shut, c .notSending)) (d .sending .noReject) (d .sending .noError);
+          sender-status w (s .ranged) (p .sender) there (c .success) (rw (c .shut, c .notSending)) (d .sending .noReject) (d .sending .noError);
       statusThere =
-          receiver-status w (s .whole) (p .receiver) far (c .successThere) (rw (c .shutThere, c .notAwaiting)) (d .receiving .noReject) (d .receiving .noError);
-      closed = sender-channel w (s .whole) (p .sender) there (c .shut);
-      closedThere = receiver-channel w (s .whole) (p .receiver) far (c .shutThere);
+          receiver-status w (s .ranged) (p .receiver) far (c .successThere) (rw (c .shutThere, c .notAwaiting)) (d .receiving .noReject) (d .receiving .noError);
+      closed = sender-channel w (s .ranged) (p .sender) there (c .shut);
+      closedThere = receiver-channel w (s .ranged) (p .receiver) far (c .shutThere);
       level =
-          subst⁻¹ (Level w (p .sender) 0) (sender-enabled w (s .whole) (p .sender) there)
-          (level-is w (s .whole) (p .sender) there 0 (t .modes .interruptEnable) (ap LevelCall.Level (sender-stands t (d .sending .noError) (c .success))));
+          subst⁻¹ (Level w (p .sender) 0) (sender-enabled w (s .ranged) (p .sender) there)
+          (level-is w (s .ranged) (p .sender) there 0 (t .modes .interruptEnable) (ap LevelCall.Level (sender-stands t (d .sending .noError) (c .success))));
       levelThere =
-          subst⁻¹ (Level w (p .receiver) 1) (receiver-enabled w (s .whole) (p .receiver) far)
-          (level-is w (s .whole) (p .receiver) far 1 (r .modes .interruptEnable) (ap LevelCall.Level (receiver-stands r (d .receiving .noError) (c .successThere))));
+          subst⁻¹ (Level w (p .receiver) 1) (receiver-enabled w (s .ranged) (p .receiver) far)
+          (level-is w (s .ranged) (p .receiver) far 1 (r .modes .interruptEnable) (ap LevelCall.Level (receiver-stands r (d .receiving .noError) (c .successThere))));
     }

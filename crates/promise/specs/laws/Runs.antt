@@ -7,6 +7,7 @@ use mathlib.Core.Path.{_≡_, refl, ap, subst, subst⁻¹, _∙_}
 use Prim.Native.Nat.{ℕ, _*_, _≤_, _<_}
 use native.Mathlib.Omega.{arith}
 use lib.ListN.{length}
+use Rattle.frames.specs.laws.Leaves.{stays, master-within}
 use Rattle.cells.specs.Fitted.{masterOf}
 use Rattle.delivery.specs.Ends.{Message}
 use Rattle.delivery.specs.laws.Slices as Slices
@@ -91,10 +92,9 @@ module _ (p : Parties) (start : World) (o : Opens p start) where
 
   round-is : length (ringOf p opened) ≡ cycleLength (masterOf (start .cells) (p .master))
   round-is =
-      let u = o .whole .units (p .master) (master-fitted (start .cells) (o .whole) 0 false (p .master) (o .mastered)) in
       ap length (opened-turns p start o)
       ∙ length-rotated (ringOf p start)
-      ∙ length-cycle (masterOf (start .cells) (p .master)) (u .master) (u .counting)
+      ∙ length-cycle (masterOf (start .cells) (p .master)) (master-within (stays (o .ranged)) (p .master) (master-fitted (start .cells) (o .ranged) 0 false (p .master) (o .mastered)))
 
   module _ (es : List Event) (c : Conducted p m opened es) where
     abbrev round : ℕ

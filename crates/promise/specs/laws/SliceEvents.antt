@@ -7,6 +7,7 @@ use Prim.Native.Nat.{ℕ, _<_}
 use borrow.Author.Tests.{eqb-true, eqb-false}
 use lib.Dec.{eqb, ltb}
 use lib.ListN.{length}
+use Rattle.frames.specs.laws.Leaves.{stays, still-fitted}
 use Rattle.bus.specs.Slice.{slicePassed}
 use Rattle.cells.specs.Fitted.{transmitterOf, receiverOf}
 use Rattle.cells.specs.Layout.{countIn}
@@ -52,17 +53,17 @@ module _ (p : Parties) (start : World) (o : Opens p start) (q : State) (w : Worl
   after = slicePassed (w .cells) mask parity .1
 
   sender-near : p .sender < 16
-  sender-near = s .whole .units (p .sender) (sender-fitted p start o q w s) .number
+  sender-near = still-fitted (stays (s .ranged)) (p .sender) (sender-fitted p start o q w s) .number
 
   receiver-near : p .receiver < 16
-  receiver-near = s .whole .units (p .receiver) (receiver-fitted p start o q w s) .number
+  receiver-near = still-fitted (stays (s .ranged)) (p .receiver) (receiver-fitted p start o q w s) .number
 
   -- ---- T's own
 
   module _ (mine : address ≡ m .from) where
     heard : SlicePasses (w .cells) mask parity (p .master) (heardOn (nextOn (w .cells) (p .master)) (p .sender) (p .receiver) address mask parity)
     heard =
-        slice-heard (w .cells) (s .whole) mask parity (p .master) (s .mastered) (p .sender)
+        slice-heard (w .cells) (s .ranged) mask parity (p .master) (s .mastered) (p .sender)
         (ap (unitFor (w .cells)) mine ∙ sender-found p start o q w s) sender-near (p .receiver)
         (ap (Search.firstReceiver (w .cells) (countIn (w .cells))) (addressed m q x (s .delivering)) ∙ receiver-found p start o q w s) receiver-near
 
@@ -80,8 +81,8 @@ module _ (p : Parties) (start : World) (o : Opens p start) (q : State) (w : Worl
               exchange-stands p start w (s .kept) (s .mastered) (sender-fitted p start o q w s) (receiver-fitted p start o q w s) mask parity next heard
               (subst⁻¹ (λ (e : Pair). Delivering m next (with x e)) same (own-slice m q x (s .delivering) until));
           turning = (
-            sym (ring-first (w .cells) (s .whole) mask parity (p .master) (s .mastered)) ∙ mine,
-            ring-turns (w .cells) (s .whole) mask parity (p .master) (s .mastered),
+            sym (ring-first (w .cells) (s .ranged) mask parity (p .master) (s .mastered)) ∙ mine,
+            ring-turns (w .cells) (s .ranged) mask parity (p .master) (s .mastered),
           );
         }
 
@@ -97,11 +98,11 @@ module _ (p : Parties) (start : World) (o : Opens p start) (q : State) (w : Worl
       by (ltb 1 parity)
       (λ many.
       let refused : (SliceCall.BadMask, w .cells) ≡ sliceCall (w .cells) mask parity =
-      past _ (ap not (s .whole .ranged)) (here _ many refl) in
+      past _ (ap not (s .ranged)) (here _ many refl) in
       subst By refused (undisturbed p start q w s (w .cells) (nothing-done p start q w s)))
       (λ few.
-      let call = slice-call (w .cells) (s .whole) mask parity (p .master) (s .mastered) few in
-      let kind = slice-kind (w .cells) (s .whole) mask parity (p .master) (s .mastered) few (messageIn p start .from) in
+      let call = slice-call (w .cells) (s .ranged) mask parity (p .master) (s .mastered) few in
+      let kind = slice-kind (w .cells) (s .ranged) mask parity (p .master) (s .mastered) few (messageIn p start .from) in
       subst⁻¹ (λ (k : Kind). Follows p start q w k (step (slice mask parity) w)) kind
       (subst⁻¹ (λ (r : SliceCall × List ℕ). Follows p start q w (pick (eqb (nextAddress (w .cells) (p .master)) (messageIn p start .from)) own other) (withCells w (r .1))) call
       (by (eqb (nextAddress (w .cells) (p .master)) (messageIn p start .from))

@@ -3,11 +3,13 @@
 use mathlib.Core.List.{List}
 use mathlib.Core.Path.{_≡_}
 use Prim.Native.Nat.{ℕ, _+_}
+use mathlib.Core.Bool.{true}
+use Rattle.cells.specs.Ranges.{inRange}
 use Rattle.cells.specs.Fitted.{masterOf}
 use Rattle.cells.specs.Layout.{holderIn}
 use Rattle.delivery.specs.laws.Invariant.{Delivering}
 use Rattle.delivery.specs.laws.Slices.{State, slice}
-use Rattle.frames.specs.laws.Whole.{Whole, Kept}
+use Rattle.frames.specs.laws.Kept.{Kept}
 use Rattle.master.specs.Cycle.{cycleOf}
 use Rattle.promise.specs.Kinds.{Kind, own, other, quiet}
 use Rattle.promise.specs.Opening.{Parties, endsOf, messageIn}
@@ -25,7 +27,7 @@ onward n quiet q = q
 
 -- start is the world at the opening, before the opening slice
 pub record Standing (p : Parties) (start : World) (q : State) (w : World) : Type 0 where
-  pub whole : Whole (w .cells)
+  pub ranged : inRange (w .cells) ≡ true
   -- the count of units, and every unit's addresses and memory length, are those of the opening
   pub kept : Kept (start .cells) (w .cells)
   -- and so is the master

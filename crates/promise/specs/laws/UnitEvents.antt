@@ -60,20 +60,20 @@ module _ (p : Parties) (start : World) (o : Opens p start) (q : State) (w : Worl
   read-follows offset =
       at-unit ReadCall.BadState ReadCall.NoUnit (readBy (unitRead (w .cells) unit offset))
       (λ fitted c.
-      let leaves = read-leaves (w .cells) (s .whole) unit fitted offset in
+      let leaves = read-leaves (w .cells) (s .ranged) unit fitted offset in
       let d = s .delivering in (
         record {
-          whole = leaves .whole;
+          ranged = leaves .ranged;
           kept = leaves .kept;
-          holder = read-holder (w .cells) (s .whole) unit fitted offset;
+          holder = read-holder (w .cells) (s .ranged) unit fitted offset;
           transmitter =
-              read-transmitter (w .cells) (s .whole) unit fitted offset (p .sender) (sender-fitted p start o q w s)
+              read-transmitter (w .cells) (s .ranged) unit fitted offset (p .sender) (sender-fitted p start o q w s)
               (λ here e. subst (λ (k : ℕ). transmitterOf (w .cells) k .modes .readSilo ≡ false) here (d .sending .readSilo));
           receiver =
-              read-receiver (w .cells) (s .whole) unit fitted offset (p .receiver) (receiver-fitted p start o q w s)
+              read-receiver (w .cells) (s .ranged) unit fitted offset (p .receiver) (receiver-fitted p start o q w s)
               (λ here e. subst (λ (k : ℕ). receiverOf (w .cells) k .modes .memoryRequests ≡ true) here (d .receiving .requests));
         },
-        same-ring _ _ (read-cycle (w .cells) (s .whole) unit fitted offset (p .master) (master-fitted p start o q w s)),
+        same-ring _ _ (read-cycle (w .cells) (s .ranged) unit fitted offset (p .master) (master-fitted p start o q w s)),
       ))
 
   -- ---- resets and periods
@@ -83,12 +83,12 @@ module _ (p : Parties) (start : World) (o : Opens p start) (q : State) (w : Worl
       at-unit UnitCall.BadState UnitCall.NoUnit (UnitCall.Done, unitReset (w .cells) unit)
       (λ fitted c.
       let (a, notAtMaster) = allowed (ap (λ (r : UnitCall × List ℕ). leavesAll (doneNumber (r .0))) c) in
-      let leaves = reset-leaves (w .cells) (s .whole) unit fitted in
-      let others = reset-others (w .cells) (s .whole) unit fitted in (
+      let leaves = reset-leaves (w .cells) (s .ranged) unit fitted in
+      let others = reset-others (w .cells) (s .ranged) unit fitted in (
         record {
-          whole = leaves .whole;
+          ranged = leaves .ranged;
           kept = leaves .kept;
-          holder = reset-holder (w .cells) (s .whole) unit fitted (λ e. notAtMaster (omega (arith, s .mastered)));
+          holder = reset-holder (w .cells) (s .ranged) unit fitted (λ e. notAtMaster (omega (arith, s .mastered)));
           transmitter = others .transmitter (p .sender) (sender-fitted p start o q w s) (λ e. a .notAtT (sym e));
           receiver = others .receiver (p .receiver) (receiver-fitted p start o q w s) (λ e. a .notAtR (sym e));
         },
@@ -100,10 +100,10 @@ module _ (p : Parties) (start : World) (o : Opens p start) (q : State) (w : Worl
       at-unit UnitCall.BadState UnitCall.NoUnit (UnitCall.Done, unitPeriod (w .cells) unit)
       (λ fitted c.
       let a : Elsewhere p unit = allowed (ap (λ (r : UnitCall × List ℕ). leavesAll (doneNumber (r .0))) c) in
-      let leaves = period-leaves (w .cells) (s .whole) unit fitted in
-      let others = period-others (w .cells) (s .whole) unit fitted in (
+      let leaves = period-leaves (w .cells) (s .ranged) unit fitted in
+      let others = period-others (w .cells) (s .ranged) unit fitted in (
         record {
-          whole = leaves .whole;
+          ranged = leaves .ranged;
           kept = leaves .kept;
           holder = leaves .holds .holder;
           transmitter = others .transmitter (p .sender) (sender-fitted p start o q w s) (λ e. a .notAtT (sym e));

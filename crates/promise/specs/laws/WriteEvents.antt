@@ -4,7 +4,7 @@
 use mathlib.Core.Bool.{and-false}
 use mathlib.Core.List.{List}
 use mathlib.Core.Logic.{inl, inr}
-use mathlib.Core.Path.{_≡_, ap, sym, _∙_}
+use mathlib.Core.Path.{_≡_, ap, sym, subst⁻¹, _∙_}
 use Prim.Native.Nat.{ℕ, _<_}
 use native.Mathlib.Omega.{arith}
 use borrow.Author.Tests.{eqb-true, eqb-false}
@@ -21,15 +21,15 @@ use Rattle.frames.specs.laws.Writes.{byte-leaves, write-leaves}
 use Rattle.laws.specs.Pick.{by}
 use Rattle.master.specs.Cycle.{cycleOf}
 use Rattle.outcomes.specs.Unchanged.{leavesAll}
+use Rattle.outcomes.specs.laws.RefusedUnits.{unit-byte-refused, unit-write-refused}
 use Rattle.pcl.specs.Calls.{writtenBy}
 use Rattle.pcl.specs.Numbers.{writeCallNumber}
 use Rattle.pcl.specs.declared.answers.WriteCall.{WriteCall}
 use Rattle.words.specs.Answers.{writeNumber}
 use Rattle.promise.specs.Conditions.{Allowed, Write}
-use Rattle.promise.specs.laws.Follows.{Follows, Undisturbed, master-fitted, receiver-fitted, sender-fitted}
+use Rattle.promise.specs.laws.Follows.{Follows, Undisturbed, nothing-done, master-fitted, receiver-fitted, sender-fitted}
 use Rattle.promise.specs.Opening.{Parties, messageIn}
 use Rattle.promise.specs.laws.Opens.{Opens}
-use Rattle.promise.specs.laws.RefusedWrites.{byte-refused, write-refused}
 use Rattle.promise.specs.laws.Standing.{Standing}
 use Rattle.promise.specs.laws.UnitEvents.{at-unit}
 use Rattle.promise.specs.World.{World, step, write, writeByte}
@@ -48,13 +48,13 @@ module _ (p : Parties) (start : World) (o : Opens p start) (q : State) (w : Worl
             (λ e. rw e);
       }
 
-  written-so : {offset value : ℕ} {after : List ℕ} {sides : Sides} → Write p unit offset value → Leaves cells after sides → WriteKeeps cells unit offset value after
+  written-so : {touched : ℕ → Type 0} {offset value : ℕ} {after : List ℕ} {sides : Sides} → Write p unit offset value → Leaves touched cells after sides → WriteKeeps cells unit offset value after
       → Undisturbed p start q w s after
-  written-so {offset} {value} a leaves keeps =
+  written-so {offset = offset} {value = value} a leaves keeps =
       let elsewhere : (unit ≡ p .master → ⊥) → HeldElsewhere (holderIn cells) unit =
       λ other. record { held = λ e. omega (arith, s .mastered); other = λ e. other (omega (arith, s .mastered)) } in (
         record {
-          whole = leaves .whole;
+          ranged = leaves .ranged;
           kept = leaves .kept;
           holder =
               keeps .holder
@@ -72,18 +72,18 @@ module _ (p : Parties) (start : World) (o : Opens p start) (q : State) (w : Worl
   write-follows word allowed =
       at-unit p start o q w s unit WriteCall.BadState WriteCall.NoUnit (writtenBy (unitWritten (w .cells) unit offset word))
       (λ fitted c.
-      by (leavesAll (writeNumber (unitWritten (w .cells) unit offset word .0))) (write-refused p start o q w s unit fitted offset word)
+      by (leavesAll (writeNumber (unitWritten (w .cells) unit offset word .0))) (λ refused. subst⁻¹ (Undisturbed p start q w s) (unit-write-refused (w .cells) unit offset word refused) (nothing-done p start q w s))
       (λ done.
       let (fits, a) = allowed (ap (λ (r : WriteCall × List ℕ). leavesAll (writeCallNumber (r .0))) c ∙ done) in
-      written-so p start o q w s unit fitted a (write-leaves (w .cells) (s .whole) unit fitted offset word fits)
-      (write-keeps (w .cells) (s .whole) unit fitted offset word fits)))
+      written-so p start o q w s unit fitted a (write-leaves (w .cells) (s .ranged) unit fitted offset word fits)
+      (write-keeps (w .cells) (s .ranged) unit fitted offset word fits)))
 
   pub byte-follows : (byte : ℕ) → Allowed p (messageIn p start) (writeByte unit offset byte) w → Follows p start q w quiet (step (writeByte unit offset byte) w)
   byte-follows byte allowed =
       at-unit p start o q w s unit WriteCall.BadState WriteCall.NoUnit (writtenBy (unitByteWritten (w .cells) unit offset byte))
       (λ fitted c.
-      by (leavesAll (writeNumber (unitByteWritten (w .cells) unit offset byte .0))) (byte-refused p start o q w s unit fitted offset byte)
+      by (leavesAll (writeNumber (unitByteWritten (w .cells) unit offset byte .0))) (λ refused. subst⁻¹ (Undisturbed p start q w s) (unit-byte-refused (w .cells) unit offset byte refused) (nothing-done p start q w s))
       (λ done.
       let (fits, a) = allowed (ap (λ (r : WriteCall × List ℕ). leavesAll (writeCallNumber (r .0))) c ∙ done) in
-      written-so p start o q w s unit fitted a (byte-leaves (w .cells) (s .whole) unit fitted offset byte fits)
-      (byte-keeps (w .cells) (s .whole) unit fitted offset byte fits)))
+      written-so p start o q w s unit fitted a (byte-leaves (w .cells) (s .ranged) unit fitted offset byte fits)
+      (byte-keeps (w .cells) (s .ranged) unit fitted offset byte fits)))

@@ -15,6 +15,6 @@ module _ (r : Receiver) (h : Within r) where
 
   pub status-lt : (atBusy atReady atError : Bool) → statusOf r atBusy atReady atError < 65536
   status-lt atBusy atReady atError =
-      registers.status-lt (r .shown .a) (r .shown .b) (r .channel .opened) (r .outcome .rejectComplete) atBusy (r .outcome .success) atReady
+      registers.status-lt (r .end .shown .a) (r .end .shown .b) (r .end .opened) (r .outcome .rejectComplete) atBusy (r .outcome .success) atReady
       (r .faults .byteCountOverflow) (r .faults .timeOut) (r .faults .parity) (r .faults .transmissionError) (r .faults .memoryOverflow)
-      (r .faults .nonexistentLocation) atError (h .shown .codeA) (h .shown .codeB)
+      (r .faults .nonexistentLocation) atError (h .end .shown .codeA) (h .end .shown .codeB)

@@ -20,7 +20,7 @@ use Rattle.sending.specs.declared.choice.Choice.{Choice}
 
 -- open, with ST TXM set, and no error
 pub record Talking (t : Transmitter) : Type 0 where
-  pub opened : t .channel .opened ≡ true
+  pub opened : t .end .opened ≡ true
   pub started : t .commands .startTransmission ≡ true
   pub noError : hasError t ≡ false
 
@@ -50,15 +50,15 @@ module _ (t : Transmitter) (k : Talking t) where
       sends-last all = open-choice (past _ (k .noError) (past _ going (past _ (awaits free) (here _ all refl))))
 
       module _ (more : allSent t ≡ false) where
-        pub sends-due : t .channel .block ≡ 128 → chosen t ≡ Choice.DueCrc
+        pub sends-due : t .end .block ≡ 128 → chosen t ≡ Choice.DueCrc
         sends-due full =
-            let due : (eqb (t .channel .block) 128 && wantsOn t) ≡ true = rw (eq-eqb (t .channel .block) 128 full, wants) in
+            let due : (eqb (t .end .block) 128 && wantsOn t) ≡ true = rw (eq-eqb (t .end .block) 128 full, wants) in
             open-choice (past _ (k .noError) (past _ going (past _ (awaits free) (past _ more (here _ due refl)))))
 
-        pub sends-word : t .channel .block < 128 → isEmpty (t .silo) ≡ false → chosen t ≡ Choice.Word
+        pub sends-word : t .end .block < 128 → isEmpty (t .end .silo) ≡ false → chosen t ≡ Choice.Word
         sends-word short some =
-            let notDue : (eqb (t .channel .block) 128 && wantsOn t) ≡ false = rw (ne-eqb (t .channel .block) 128 (omega arith)) in
-            let word : (wantsOn t && not (isEmpty (t .silo))) ≡ true = rw (wants, some) in
+            let notDue : (eqb (t .end .block) 128 && wantsOn t) ≡ false = rw (ne-eqb (t .end .block) 128 (omega arith)) in
+            let word : (wantsOn t && not (isEmpty (t .end .silo))) ≡ true = rw (wants, some) in
             open-choice (past _ (k .noError) (past _ going (past _ (awaits free) (past _ more (past _ notDue (here _ word refl))))))
 
     pub sends-due-again : t .channel .awaiting ≡ true → chosen t ≡ Choice.DueCrc
@@ -103,7 +103,7 @@ module _ (t : Transmitter) (k : Talking t) where
 
 -- closed, and set up to send a whole message
 pub record Ready (t : Transmitter) : Type 0 where
-  pub closed : t .channel .opened ≡ false
+  pub closed : t .end .opened ≡ false
   pub started : t .commands .startTransmission ≡ true
   pub acting : mayOpen t ≡ true
   pub noError : hasError t ≡ false

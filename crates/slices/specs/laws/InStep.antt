@@ -30,8 +30,8 @@ use Rattle.slices.specs.declared.Pair.{Pair}
 pub record InStep (t : Transmitter) (r : Receiver) (from : ℕ) : Type 0 where
   pub talking : Talking t
   pub listening : Listening r from
-  pub block : r .channel .block ≡ t .channel .block
-  pub crc : r .channel .crc ≡ t .channel .crc
+  pub block : r .end .block ≡ t .end .block
+  pub crc : r .end .crc ≡ t .end .crc
 
 abbrev codes : ℕ → ℕ → Codes
 codes a b = record { a = a; b = b }
@@ -48,16 +48,16 @@ module _ (t : Transmitter) (r : Receiver) (from : ℕ) (s : InStep t r from) whe
     module _ (free : t .channel .awaiting ≡ false) where
       module _ (more : allSent t ≡ false) where
         -- a word answered 11 leaves T's silo by its head and joins R's silo at its end
-        pub word-step : t .channel .block < 128 → isEmpty (t .silo) ≡ false → hasRoom 64 (r .silo) ≡ true
-            → exchanged t r from 0 false ≡ ends (settled (counted (showing t 2 3))) (afterWord r (oldest (t .silo))) 2 3
+        pub word-step : t .end .block < 128 → isEmpty (t .end .silo) ≡ false → hasRoom 64 (r .end .silo) ≡ true
+            → exchanged t r from 0 false ≡ ends (settled (counted (showing t 2 3))) (afterWord r (oldest (t .end .silo))) 2 3
         word-step short some room =
             ap (λ c. exchangedAs t c r from 0 false) (sends-word t (s .talking) going free more short some)
             ∙ ap (λ x. ended t Choice.Word (answeredBy r from x)) (plain Choice.Word)
-            ∙ ap (ended t Choice.Word) (hears-word r from (sentBy t Choice.Word) (s .listening) refl (rw (s .block) short) room (parity-good (oldest (t .silo))))
-            ∙ ap (λ x. ends x (afterWord r (oldest (t .silo))) 2 3) (word-accepted t (s .talking))
+            ∙ ap (ended t Choice.Word) (hears-word r from (sentBy t Choice.Word) (s .listening) refl (rw (s .block) short) room (parity-good (oldest (t .end .silo))))
+            ∙ ap (λ x. ends x (afterWord r (oldest (t .end .silo))) 2 3) (word-accepted t (s .talking))
 
         -- a due CRC is taken
-        pub due-step : t .channel .block ≡ 128 → r .channel .owed ≡ false
+        pub due-step : t .end .block ≡ 128 → r .channel .owed ≡ false
             → exchanged t r from 0 false ≡ ends (settled (showing (afterSending t Choice.DueCrc) 2 1)) (afterCrc r 2) 2 1
         due-step full none =
             ap (λ c. exchangedAs t c r from 0 false) (sends-due t (s .talking) going free more full)
@@ -73,7 +73,7 @@ module _ (t : Transmitter) (r : Receiver) (from : ℕ) (s : InStep t r from) whe
           ∙ ap (ended t Choice.LastCrc) (hears-last r from (sentBy t Choice.LastCrc) (s .listening) refl none (sym (s .crc)))
 
     -- the verdict on a due CRC: both counts restart
-    pub due-verdict : t .channel .awaiting ≡ true → t .channel .block ≡ 128 → r .channel .owed ≡ true → r .channel .good ≡ true
+    pub due-verdict : t .channel .awaiting ≡ true → t .end .block ≡ 128 → r .channel .owed ≡ true → r .channel .good ≡ true
         → exchanged t r from 0 false ≡ ends (settled (restarted (showing (afterSending t Choice.DueCrc) 2 3))) (afterDue r) 2 3
     due-verdict waits full owed good =
         ap (λ c. exchangedAs t c r from 0 false) (sends-due-again t (s .talking) going waits)
@@ -81,7 +81,7 @@ module _ (t : Transmitter) (r : Receiver) (from : ℕ) (s : InStep t r from) whe
         ∙ ap (ended t Choice.DueCrc) (passes-due r from (sentBy t Choice.DueCrc) (s .listening) refl (s .block ∙ full) owed good)
 
   -- the verdict on the last CRC, with R's silo empty: success at both ends
-  pub last-verdict : t .channel .ending ≡ true → r .channel .owed ≡ true → r .channel .good ≡ true → isEmpty (r .silo) ≡ true
+  pub last-verdict : t .channel .ending ≡ true → r .channel .owed ≡ true → r .channel .good ≡ true → isEmpty (r .end .silo) ≡ true
       → r .channel .truncated ≡ false
       → exchanged t r from 0 false ≡ ends (settled (closed (succeeded (showing (afterSending t Choice.LastCrc) 3 3)))) (afterLast r) 3 3
   last-verdict ending owed good none whole =
@@ -92,13 +92,13 @@ module _ (t : Transmitter) (r : Receiver) (from : ℕ) (s : InStep t r from) whe
 -- ---- and they stay in step
 
 module _ (t : Transmitter) (r : Receiver) (from : ℕ) (s : InStep t r from) where
-  pub in-step-word : InStep (settled (counted (showing t 2 3))) (afterWord r (oldest (t .silo))) from
+  pub in-step-word : InStep (settled (counted (showing t 2 3))) (afterWord r (oldest (t .end .silo))) from
   in-step-word =
       record {
         talking = talking-word t (s .talking);
-        listening = listening-word r from (s .listening) (oldest (t .silo));
+        listening = listening-word r from (s .listening) (oldest (t .end .silo));
         block = ap (λ (n : ℕ). n + 1) (s .block);
-        crc = ap (λ (c : ℕ). crcWord c (oldest (t .silo))) (s .crc);
+        crc = ap (λ (c : ℕ). crcWord c (oldest (t .end .silo))) (s .crc);
       }
 
   pub in-step-due : InStep (settled (showing (afterSending t Choice.DueCrc) 2 1)) (afterCrc r 2) from
@@ -117,13 +117,13 @@ module _ (t : Transmitter) (r : Receiver) (from : ℕ) (s : InStep t r from) whe
 
 module _ (t : Transmitter) (r : Receiver) (from : ℕ) (sender : T.Ready t) (ready : R.Ready r) where
   pub opening-step : exchanged t r from 0 false
-      ≡ ends (settled (counted (talkingTo (showing t 2 3)))) (afterWord (listeningTo r from) (oldest (t .silo))) 2 3
+      ≡ ends (settled (counted (talkingTo (showing t 2 3)))) (afterWord (listeningTo r from) (oldest (t .end .silo))) 2 3
   opening-step =
       ap (λ c. exchangedAs t c r from 0 false) (sends-opening t sender)
       ∙ ap (λ x. ended t Choice.Opening (answeredBy r from x)) (undamaged (sentBy t Choice.Opening))
-      ∙ ap (ended t Choice.Opening) (hears-opening r from ready (sentBy t Choice.Opening) refl (parity-good (oldest (t .silo))))
-      ∙ ap (λ x. ends x (afterWord (listeningTo r from) (oldest (t .silo))) 2 3) (opening-accepted t sender)
+      ∙ ap (ended t Choice.Opening) (hears-opening r from ready (sentBy t Choice.Opening) refl (parity-good (oldest (t .end .silo))))
+      ∙ ap (λ x. ends x (afterWord (listeningTo r from) (oldest (t .end .silo))) 2 3) (opening-accepted t sender)
 
-  pub in-step-opened : InStep (settled (counted (talkingTo (showing t 2 3)))) (afterWord (listeningTo r from) (oldest (t .silo))) from
+  pub in-step-opened : InStep (settled (counted (talkingTo (showing t 2 3)))) (afterWord (listeningTo r from) (oldest (t .end .silo))) from
   in-step-opened =
-      record { talking = talking-opened t sender; listening = listening-opening r from ready (oldest (t .silo)); block = refl; crc = refl }
+      record { talking = talking-opened t sender; listening = listening-opening r from ready (oldest (t .end .silo)); block = refl; crc = refl }

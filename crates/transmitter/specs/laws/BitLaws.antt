@@ -15,6 +15,6 @@ module _ (t : Transmitter) (h : Within t) where
 
   pub status-lt : (atBusy atReady atError : Bool) → statusOf t atBusy atReady atError < 65536
   status-lt atBusy atReady atError =
-      registers.status-lt (t .shown .a) (t .shown .b) (t .outcome .busBusy) (t .outcome .softwareReject) atBusy (t .outcome .success) atReady
+      registers.status-lt (t .end .shown .a) (t .end .shown .b) (t .outcome .busBusy) (t .outcome .softwareReject) atBusy (t .outcome .success) atReady
       (t .faults .overrun) (t .faults .timeOut) (t .faults .masterDown) (t .faults .transmissionError) (t .faults .memoryOverflow)
-      (t .faults .nonexistentLocation) atError (h .shown .codeA) (h .shown .codeB)
+      (t .faults .nonexistentLocation) atError (h .end .shown .codeA) (h .end .shown .codeB)

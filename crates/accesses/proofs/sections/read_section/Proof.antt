@@ -1,56 +1,74 @@
--- The section out of its window, the transmitter's two bits, the rule, and the section put back.
+-- The section out of its window, the transmitter's two bits, the rule, and the section put back where an address is removed.
+use borrow.Author.Needs.{needs}
 use mathlib.Core.Bool.{Bool}
-use mathlib.Core.List.{List}
-use mathlib.Core.Path.{ap, _∙_}
-use Prim.Native.Nat.{ℕ}
+use mathlib.Core.Path.{_≡_, ap, _∙_}
 use Rattle.cells.specs.Fitted.{masterOf, transmitterOf}
 use Rattle.cells.specs.Layout.{holderIn}
+use Rattle.cells.specs.laws.FittedLaws.{master-within}
+use Rattle.laws.specs.Pick.{past, here}
 use Rattle.master.specs.laws.Laws.{within-removed}
 use Rattle.master.specs.Reading.{readOf}
+use Rattle.master.specs.declared.registers.Reading.{Reading}
 use Rattle.master.specs.declared.side.Master.{Master}
 use Rattle.master.specs.declared.side.Mastership.{Mastership}
 use Rattle.words.specs.declared.answers.Read.{Read}
 use Rattle.accesses.specs.Masters.{mastershipOf}
-use Rattle.accesses.specs.Reading.{afterMaster}
+use Rattle.accesses.specs.Reading.{afterMaster, sectionRead}
 use Rattle.accesses.proofs.sections.read_section.Statement.{statement}
 use Rattle.accesses.proofs.sections.read_section.Tie as tie
 
-see-master-requires : tie.Need-see-master-requires
-see-master-requires c κs = let f = c .before .before .pre in (f .number, f .room)
+put-master-requires : tie.Need-put-master-requires
+put-master-requires c κs =
+    let ruled = c .before .before .before in
+    let silo = ruled .before .before .before in
+    let start = silo .before .before .before .before .before .before .before in
+    (start .pre, rw (ruled .read .ensures, ruled .before .master-of .ensures) (within-removed _ (master-within _ _ (start .pre)) (silo .reads-silo .result)))
 
-load-master-requires : tie.Need-load-master-requires
-load-master-requires c κs = let f = c .before .before .before .before .before .before .before .before .pre in (f .number, f .room)
-
-store-master-requires : tie.Need-store-master-requires
-store-master-requires c κs =
-    let f = c .before .before .before .before .before .before .before .before .before .before .before .pre in
-    let silo = c .before .before .before .before in
-    ((f .number, f .room), rw (c .before .read .ensures, c .before .before .load-master .ensures) (within-removed _ (f .master) (silo .reads-silo .result)))
-
-same-length : tie.Need-same-length
-same-length c = c .before .before .store-master .kept .0
-
-returns : tie.Need-returns
-returns c =
-    let stored = c .before .before in
-    let ruled = stored .before .before in
-    let loaded = ruled .before in
-    let silo = loaded .before .before in
+-- what the rule gave, as the definition has it
+gave : (c : tie.After-read) → let a = c .before .before .before .before .before .before .before .before .before .before .args in c .read .result ≡ sectionRead (a .cells .now) (a .unit)
+gave c =
+    let silo = c .before .before .before in
     let opened = silo .before .before in
     let seen = opened .before .before in
     let a = seen .before .before .before .args in
     let s = a .cells .now in
     let m = masterOf s (a .unit) in
     let x = mastershipOf (holderIn s) (a .unit) in
-    ap (λ (l : List ℕ). (Read.Word (ruled .read .result .word), l)) (stored .store-master .ensures)
-    ∙ ap (afterMaster s (a .unit))
-    (ruled .read .ensures
-    ∙ ap (λ (m : Master). readOf m (seen .see-master .result) (opened .is-open .result) (silo .reads-silo .result)) (loaded .load-master .ensures)
+    c .read .ensures
+    ∙ ap (λ (m : Master). readOf m (seen .see-master .result) (opened .is-open .result) (silo .reads-silo .result)) (c .before .master-of .ensures)
     ∙ ap (λ (x : Mastership). readOf m x (opened .is-open .result) (silo .reads-silo .result)) (seen .see-master .ensures)
     ∙ ap (λ (o : Bool). readOf m x o (silo .reads-silo .result)) (opened .is-open .ensures)
-    ∙ ap (readOf m x (transmitterOf s (a .unit) .channel .opened)) (silo .reads-silo .ensures))
+    ∙ ap (readOf m x (transmitterOf s (a .unit) .end .opened)) (silo .reads-silo .ensures)
+
+returns : tie.Need-returns
+returns c =
+    let asked = c .before .before .before .before .before in
+    let ruled = asked .before in
+    let silo = ruled .before .before .before in
+    let a = silo .before .before .before .before .before .before .before .args in
+    here _ (rw (asked .removes .ensures, ruled .before .master-of .ensures, silo .reads-silo .ensures) at (c .before .before .before .before .if1 .taken))
+    (rw (c .before .before .put-master .ensures) (ap (afterMaster (a .cells .now) (a .unit)) (gave ruled)))
+
+returns-2 : tie.Need-returns-2
+returns-2 c =
+    let ruled = c .before .before in
+    let silo = ruled .before .before .before in
+    let s = silo .before .before .before .before .before .before .before .args .cells .now in
+    past _ (rw (c .before .removes .ensures, ruled .before .master-of .ensures, silo .reads-silo .ensures) at (c .if1 .left))
+    (ap (λ (r : Reading). (Read.Word (r .word), s)) (gave ruled))
 
 pub read-section-spec : {M : Type 1} → statement M
 read-section-spec =
     tie.close
-    (tie.spec see-master-requires (λ c κs. c .before .before .before .before .pre) (λ c κs. c .before .before .before .before .before .before .pre) load-master-requires (λ c κs. tt) store-master-requires same-length returns)
+    (tie.spec
+    (λ c. search needs)
+    (λ c. search needs)
+    (λ c. search needs)
+    (λ c. search needs)
+    (λ c. search needs)
+    (λ c. search needs)
+    put-master-requires
+    (λ c. search needs)
+    returns
+    (λ c. search needs)
+    returns-2)

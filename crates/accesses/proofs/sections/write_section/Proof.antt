@@ -1,7 +1,9 @@
 -- The section out of its window, the rule, and the section put back.
+use borrow.Author.Needs.{needs}
 use mathlib.Core.Bool.{Bool}
 use mathlib.Core.Path.{ap, _∙_}
 use Rattle.cells.specs.Fitted.{masterOf}
+use Rattle.cells.specs.laws.FittedLaws.{master-within}
 use Rattle.cells.specs.Layout.{holderIn}
 use Rattle.master.specs.laws.Laws.{within-word}
 use Rattle.master.specs.Writing.{wordWritten}
@@ -12,17 +14,8 @@ use Rattle.accesses.specs.Writing.{afterMaster}
 use Rattle.accesses.proofs.sections.write_section.Statement.{statement}
 use Rattle.accesses.proofs.sections.write_section.Tie as tie
 
-see-master-requires : tie.Need-see-master-requires
-see-master-requires c κs = let f = c .before .before .pre in (f .number, f .room)
-
-reads-silo-requires : tie.Need-reads-silo-requires
-reads-silo-requires c κs = c .before .before .before .before .pre
-
-load-master-requires : tie.Need-load-master-requires
-load-master-requires c κs = let f = c .before .before .before .before .before .before .pre in (f .number, f .room)
-
 write-word-requires : tie.Need-write-word-requires
-write-word-requires c κs = rw (c .load-master .ensures) (c .before .before .before .before .before .before .before .pre .master)
+write-word-requires c κs = rw (c .master-of .ensures) (master-within _ _ (c .before .before .before .before .before .before .before .pre))
 
 store-section-requires : tie.Need-store-section-requires
 store-section-requires c κs =
@@ -30,10 +23,7 @@ store-section-requires c κs =
     let a = start .args in
     let silo = c .before .before .before .before in
     let seen = c .before .before .before .before .before .before in
-    (start .pre, rw (c .before .write-word .ensures, c .before .before .load-master .ensures) (within-word _ (start .pre .master) (seen .see-master .result) (silo .reads-silo .result) (a .word)))
-
-same-length : tie.Need-same-length
-same-length c = c .before .before .store-section .kept .0
+    (start .pre, rw (c .before .write-word .ensures, c .before .before .master-of .ensures) (within-word _ (master-within _ _ (start .pre)) (seen .see-master .result) (silo .reads-silo .result) (a .word)))
 
 returns : tie.Need-returns
 returns c =
@@ -47,9 +37,9 @@ returns c =
     stored .store-section .ensures
     ∙ ap (afterMaster s (a .unit))
     (ruled .write-word .ensures
-    ∙ ap (λ (m : Master). wordWritten m (seen .see-master .result) (silo .reads-silo .result) (a .word)) (loaded .load-master .ensures)
+    ∙ ap (λ (m : Master). wordWritten m (seen .see-master .result) (silo .reads-silo .result) (a .word)) (loaded .master-of .ensures)
     ∙ ap (λ (x : Mastership). wordWritten (masterOf s (a .unit)) x (silo .reads-silo .result) (a .word)) (seen .see-master .ensures)
     ∙ ap (λ (x : Bool). wordWritten (masterOf s (a .unit)) (mastershipOf (holderIn s) (a .unit)) x (a .word)) (silo .reads-silo .ensures))
 
 pub write-section-spec : {M : Type 1} → statement M
-write-section-spec = tie.close (tie.spec see-master-requires reads-silo-requires load-master-requires write-word-requires store-section-requires same-length returns)
+write-section-spec = tie.close (tie.spec (λ c. search needs) (λ c. search needs) (λ c. search needs) write-word-requires store-section-requires (λ c. search needs) returns)

@@ -1,6 +1,8 @@
 -- The section out of its window, the rule, and the section put back.
+use borrow.Author.Needs.{needs}
 use mathlib.Core.Path.{ap, _∙_}
 use Rattle.cells.specs.Fitted.{masterOf}
+use Rattle.cells.specs.laws.FittedLaws.{master-within}
 use Rattle.master.specs.laws.Laws.{within-high}
 use Rattle.master.specs.Writing.{highByteWritten}
 use Rattle.master.specs.declared.side.Master.{Master}
@@ -9,24 +11,15 @@ use Rattle.accesses.specs.Writing.{afterMaster}
 use Rattle.accesses.proofs.sections.write_section_high.Statement.{statement}
 use Rattle.accesses.proofs.sections.write_section_high.Tie as tie
 
-see-master-requires : tie.Need-see-master-requires
-see-master-requires c κs = let f = c .before .before .pre in (f .number, f .room)
-
-load-master-requires : tie.Need-load-master-requires
-load-master-requires c κs = let f = c .before .before .before .before .pre in (f .number, f .room)
-
 write-high-requires : tie.Need-write-high-requires
-write-high-requires c κs = rw (c .load-master .ensures) (c .before .before .before .before .before .pre .master)
+write-high-requires c κs = rw (c .master-of .ensures) (master-within _ _ (c .before .before .before .before .before .pre))
 
 store-section-requires : tie.Need-store-section-requires
 store-section-requires c κs =
     let start = c .before .before .before .before .before .before .before in
     let a = start .args in
     let seen = c .before .before .before .before in
-    (start .pre, rw (c .before .write-high .ensures, c .before .before .load-master .ensures) (within-high _ (start .pre .master) (seen .see-master .result) (a .byte)))
-
-same-length : tie.Need-same-length
-same-length c = c .before .before .store-section .kept .0
+    (start .pre, rw (c .before .write-high .ensures, c .before .before .master-of .ensures) (within-high _ (master-within _ _ (start .pre)) (seen .see-master .result) (a .byte)))
 
 returns : tie.Need-returns
 returns c =
@@ -39,8 +32,8 @@ returns c =
     stored .store-section .ensures
     ∙ ap (afterMaster s (a .unit))
     (ruled .write-high .ensures
-    ∙ ap (λ (m : Master). highByteWritten m (seen .see-master .result) (a .byte)) (loaded .load-master .ensures)
+    ∙ ap (λ (m : Master). highByteWritten m (seen .see-master .result) (a .byte)) (loaded .master-of .ensures)
     ∙ ap (λ (x : Mastership). highByteWritten (masterOf s (a .unit)) x (a .byte)) (seen .see-master .ensures))
 
 pub write-section-high-spec : {M : Type 1} → statement M
-write-section-high-spec = tie.close (tie.spec see-master-requires load-master-requires write-high-requires store-section-requires same-length returns)
+write-section-high-spec = tie.close (tie.spec (λ c. search needs) (λ c. search needs) write-high-requires store-section-requires (λ c. search needs) returns)

@@ -1,7 +1,9 @@
 -- The section, and then the transmitter put back as it starts.
+use borrow.Author.Needs.{needs}
 use mathlib.Core.List.{List}
 use mathlib.Core.Path.{ap, _∙_}
 use Prim.Native.Nat.{ℕ}
+use Rattle.cells.specs.laws.FittedLaws.{still-fitted}
 use Rattle.cells.specs.Fitted.{putTransmitter}
 use Rattle.transmitter.specs.laws.Keeps.{within-initial}
 use Rattle.words.specs.declared.answers.Write.{Write}
@@ -9,13 +11,10 @@ use Rattle.accesses.specs.Writing.{sectionReset}
 use Rattle.accesses.proofs.writing.reset_transmitter.Statement.{statement}
 use Rattle.accesses.proofs.writing.reset_transmitter.Tie as tie
 
-store-transmitter-requires : tie.Need-store-transmitter-requires
-store-transmitter-requires c κs =
+put-transmitter-requires : tie.Need-put-transmitter-requires
+put-transmitter-requires c κs =
     let f = c .before .before .before .before .before .before .before .pre in
-    ((f .number, rw (c .before .before .before .before .reset-section .kept .0) (f .room)), rw (c .start .ensures) within-initial)
-
-same-length : tie.Need-same-length
-same-length c = c .before .before .store-transmitter .kept .0 ∙ c .before .before .before .before .before .before .before .reset-section .kept .0
+    (still-fitted (c .before .before .before .before .reset-section .kept .0) f, rw (c .start .ensures) within-initial)
 
 returns : tie.Need-returns
 returns c =
@@ -24,9 +23,9 @@ returns c =
     let section = begun .before .before .before .before in
     let a = section .before .before .before .args in
     ap (λ (l : List ℕ). (Write.Done, l))
-    (stored .store-transmitter .ensures
+    (stored .put-transmitter .ensures
     ∙ ap (λ (l : List ℕ). putTransmitter l (a .unit) (begun .start .result)) (section .reset-section .ensures)
     ∙ ap (putTransmitter (sectionReset (a .cells .now) (a .unit)) (a .unit)) (begun .start .ensures))
 
 pub reset-transmitter-spec : {M : Type 1} → statement M
-reset-transmitter-spec = tie.close (tie.spec (λ c κs. c .before .before .pre) (λ c κs. tt) store-transmitter-requires same-length returns)
+reset-transmitter-spec = tie.close (tie.spec (λ c. search needs) (λ c. search needs) put-transmitter-requires (λ c. search needs) returns)

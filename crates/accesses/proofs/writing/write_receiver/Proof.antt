@@ -1,37 +1,38 @@
--- The side out of its window, the rule, and the side put back.
-use mathlib.Core.List.{List}
-use mathlib.Core.Path.{ap, _∙_}
-use Prim.Native.Nat.{ℕ}
-use Rattle.receiver.specs.declared.side.Receiver.{Receiver}
+-- The side out of its window, the rule, and the side put back where the rule changes it.
+use borrow.Author.Needs.{needs}
+use mathlib.Core.Path.{ap}
+use Rattle.cells.specs.laws.FittedLaws.{receiver-within}
+use Rattle.laws.specs.Pick.{past, here}
+use Rattle.receiver_registers.specs.declared.registers.Written.{Written}
 use Rattle.receiver_registers.specs.laws.Keeps.{within-written}
-use Rattle.receiver_registers.specs.Writing.{written}
 use Rattle.accesses.specs.Writing.{afterReceiver}
 use Rattle.accesses.proofs.writing.write_receiver.Statement.{statement}
 use Rattle.accesses.proofs.writing.write_receiver.Tie as tie
 
-load-receiver-requires : tie.Need-load-receiver-requires
-load-receiver-requires c κs = let f = c .before .before .pre in (f .number, f .room)
-
 write-requires : tie.Need-write-requires
-write-requires c κs = rw (c .load-receiver .ensures) (c .before .before .before .pre .receiver)
+write-requires c κs = rw (c .receiver-of .ensures) (receiver-within _ _ (c .before .before .before .pre))
 
-store-receiver-requires : tie.Need-store-receiver-requires
-store-receiver-requires c κs =
-    let start = c .before .before .before .before .before in
-    let a = start .args in
-    ((start .pre .number, start .pre .room), rw (c .before .write .ensures, c .before .before .load-receiver .ensures) (within-written _ (start .pre .receiver) (a .offset) (a .word) (start .fits .word .fits)))
-
-same-length : tie.Need-same-length
-same-length c = c .before .before .store-receiver .kept .0
+put-receiver-requires : tie.Need-put-receiver-requires
+put-receiver-requires c κs =
+    let ruled = c .before .before .before in
+    let start = ruled .before .before .before .before in
+    (start .pre, rw (ruled .write .ensures, ruled .before .receiver-of .ensures) (within-written _ (receiver-within _ _ (start .pre)) (start .args .offset) (start .args .word) (start .fits .word .fits)))
 
 returns : tie.Need-returns
 returns c =
-    let stored = c .before .before in
-    let ruled = stored .before .before in
-    let loaded = ruled .before in
-    let a = loaded .before .before .before .args in
-    ap (λ (l : List ℕ). (ruled .write .result .answer, l)) (stored .store-receiver .ensures)
-    ∙ ap (afterReceiver (a .cells .now) (a .unit)) (ruled .write .ensures ∙ ap (λ (x : Receiver). written x (a .offset) (a .word)) (loaded .load-receiver .ensures))
+    let asked = c .before .before .before .before .before in
+    let ruled = asked .before in
+    let is = ruled .before .receiver-of .ensures in
+    let a = ruled .before .before .before .before .args in
+    here _ (rw (asked .changes .ensures) at (c .before .before .before .before .if1 .taken))
+    (rw (c .before .before .put-receiver .ensures) (ap (afterReceiver (a .cells .now) (a .unit)) (rw is at (ruled .write .ensures))))
+
+returns-2 : tie.Need-returns-2
+returns-2 c =
+    let ruled = c .before .before in
+    let is = ruled .before .receiver-of .ensures in
+    let s = ruled .before .before .before .before .args .cells .now in
+    past _ (rw (c .before .changes .ensures) at (c .if1 .left)) (ap (λ (x : Written). (x .answer, s)) (rw is at (ruled .write .ensures)))
 
 pub write-receiver-spec : {M : Type 1} → statement M
-write-receiver-spec = tie.close (tie.spec load-receiver-requires write-requires store-receiver-requires same-length returns)
+write-receiver-spec = tie.close (tie.spec (λ c. search needs) write-requires (λ c. search needs) put-receiver-requires (λ c. search needs) returns (λ c. search needs) returns-2)

@@ -1,37 +1,38 @@
--- The side out of its window, the rule, and the side put back.
-use mathlib.Core.List.{List}
-use mathlib.Core.Path.{ap, _∙_}
-use Prim.Native.Nat.{ℕ}
-use Rattle.transmitter.specs.declared.side.Transmitter.{Transmitter}
+-- The side out of its window, the rule, and the side put back where the rule changes it.
+use borrow.Author.Needs.{needs}
+use mathlib.Core.Path.{ap}
+use Rattle.cells.specs.laws.FittedLaws.{transmitter-within}
+use Rattle.laws.specs.Pick.{past, here}
+use Rattle.transmitter_registers.specs.declared.registers.Written.{Written}
 use Rattle.transmitter_registers.specs.laws.Keeps.{within-written}
-use Rattle.transmitter_registers.specs.Writing.{written}
 use Rattle.accesses.specs.Writing.{afterTransmitter}
 use Rattle.accesses.proofs.writing.write_transmitter.Statement.{statement}
 use Rattle.accesses.proofs.writing.write_transmitter.Tie as tie
 
-load-transmitter-requires : tie.Need-load-transmitter-requires
-load-transmitter-requires c κs = let f = c .before .before .pre in (f .number, f .room)
-
 write-requires : tie.Need-write-requires
-write-requires c κs = rw (c .load-transmitter .ensures) (c .before .before .before .pre .transmitter)
+write-requires c κs = rw (c .transmitter-of .ensures) (transmitter-within _ _ (c .before .before .before .pre))
 
-store-transmitter-requires : tie.Need-store-transmitter-requires
-store-transmitter-requires c κs =
-    let start = c .before .before .before .before .before in
-    let a = start .args in
-    ((start .pre .number, start .pre .room), rw (c .before .write .ensures, c .before .before .load-transmitter .ensures) (within-written _ (start .pre .transmitter) (a .offset) (a .word) (start .fits .word .fits)))
-
-same-length : tie.Need-same-length
-same-length c = c .before .before .store-transmitter .kept .0
+put-transmitter-requires : tie.Need-put-transmitter-requires
+put-transmitter-requires c κs =
+    let ruled = c .before .before .before in
+    let start = ruled .before .before .before .before in
+    (start .pre, rw (ruled .write .ensures, ruled .before .transmitter-of .ensures) (within-written _ (transmitter-within _ _ (start .pre)) (start .args .offset) (start .args .word) (start .fits .word .fits)))
 
 returns : tie.Need-returns
 returns c =
-    let stored = c .before .before in
-    let ruled = stored .before .before in
-    let loaded = ruled .before in
-    let a = loaded .before .before .before .args in
-    ap (λ (l : List ℕ). (ruled .write .result .answer, l)) (stored .store-transmitter .ensures)
-    ∙ ap (afterTransmitter (a .cells .now) (a .unit)) (ruled .write .ensures ∙ ap (λ (x : Transmitter). written x (a .offset) (a .word)) (loaded .load-transmitter .ensures))
+    let asked = c .before .before .before .before .before in
+    let ruled = asked .before in
+    let is = ruled .before .transmitter-of .ensures in
+    let a = ruled .before .before .before .before .args in
+    here _ (rw (asked .changes .ensures) at (c .before .before .before .before .if1 .taken))
+    (rw (c .before .before .put-transmitter .ensures) (ap (afterTransmitter (a .cells .now) (a .unit)) (rw is at (ruled .write .ensures))))
+
+returns-2 : tie.Need-returns-2
+returns-2 c =
+    let ruled = c .before .before in
+    let is = ruled .before .transmitter-of .ensures in
+    let s = ruled .before .before .before .before .args .cells .now in
+    past _ (rw (c .before .changes .ensures) at (c .if1 .left)) (ap (λ (x : Written). (x .answer, s)) (rw is at (ruled .write .ensures)))
 
 pub write-transmitter-spec : {M : Type 1} → statement M
-write-transmitter-spec = tie.close (tie.spec load-transmitter-requires write-requires store-transmitter-requires same-length returns)
+write-transmitter-spec = tie.close (tie.spec (λ c. search needs) write-requires (λ c. search needs) put-transmitter-requires (λ c. search needs) returns (λ c. search needs) returns-2)

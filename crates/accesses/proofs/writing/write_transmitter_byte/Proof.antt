@@ -1,37 +1,40 @@
--- The side out of its window, the rule, and the side put back.
-use mathlib.Core.List.{List}
+-- The side out of its window, the rule, and the side put back where the rule changes it.
+use borrow.Author.Needs.{needs}
 use mathlib.Core.Path.{ap, _∙_}
-use Prim.Native.Nat.{ℕ}
+use Rattle.cells.specs.laws.FittedLaws.{transmitter-within}
+use Rattle.laws.specs.Pick.{past, here}
 use Rattle.transmitter.specs.declared.side.Transmitter.{Transmitter}
-use Rattle.transmitter_registers.specs.laws.Keeps.{within-byte}
 use Rattle.transmitter_registers.specs.Writing.{byteWritten}
+use Rattle.transmitter_registers.specs.declared.registers.Written.{Written}
+use Rattle.transmitter_registers.specs.laws.Keeps.{within-byte}
 use Rattle.accesses.specs.Writing.{afterTransmitter}
 use Rattle.accesses.proofs.writing.write_transmitter_byte.Statement.{statement}
 use Rattle.accesses.proofs.writing.write_transmitter_byte.Tie as tie
 
-load-transmitter-requires : tie.Need-load-transmitter-requires
-load-transmitter-requires c κs = let f = c .before .before .pre in (f .number, f .room)
-
 write-byte-requires : tie.Need-write-byte-requires
-write-byte-requires c κs = rw (c .load-transmitter .ensures) (c .before .before .before .pre .transmitter)
+write-byte-requires c κs = rw (c .transmitter-of .ensures) (transmitter-within _ _ (c .before .before .before .pre))
 
-store-transmitter-requires : tie.Need-store-transmitter-requires
-store-transmitter-requires c κs =
-    let start = c .before .before .before .before .before in
-    let a = start .args in
-    ((start .pre .number, start .pre .room), rw (c .before .write-byte .ensures, c .before .before .load-transmitter .ensures) (within-byte _ (start .pre .transmitter) (a .offset) (a .byte) (start .fits .byte .fits)))
-
-same-length : tie.Need-same-length
-same-length c = c .before .before .store-transmitter .kept .0
+put-transmitter-requires : tie.Need-put-transmitter-requires
+put-transmitter-requires c κs =
+    let ruled = c .before .before .before in
+    let start = ruled .before .before .before .before in
+    (start .pre, rw (ruled .write-byte .ensures, ruled .before .transmitter-of .ensures) (within-byte _ (transmitter-within _ _ (start .pre)) (start .args .offset) (start .args .byte) (start .fits .byte .fits)))
 
 returns : tie.Need-returns
 returns c =
-    let stored = c .before .before in
-    let ruled = stored .before .before in
-    let loaded = ruled .before in
-    let a = loaded .before .before .before .args in
-    ap (λ (l : List ℕ). (ruled .write-byte .result .answer, l)) (stored .store-transmitter .ensures)
-    ∙ ap (afterTransmitter (a .cells .now) (a .unit)) (ruled .write-byte .ensures ∙ ap (λ (x : Transmitter). byteWritten x (a .offset) (a .byte)) (loaded .load-transmitter .ensures))
+    let asked = c .before .before .before .before .before in
+    let ruled = asked .before in
+    let is = ruled .before .transmitter-of .ensures in
+    let a = ruled .before .before .before .before .args in
+    here _ (rw (asked .changes-byte .ensures) at (c .before .before .before .before .if1 .taken))
+    (rw (c .before .before .put-transmitter .ensures) (ap (afterTransmitter (a .cells .now) (a .unit)) (ruled .write-byte .ensures ∙ ap (λ (t : Transmitter). byteWritten t (a .offset) (a .byte)) is)))
+
+returns-2 : tie.Need-returns-2
+returns-2 c =
+    let ruled = c .before .before in
+    let is = ruled .before .transmitter-of .ensures in
+    let a = ruled .before .before .before .before .args in
+    past _ (rw (c .before .changes-byte .ensures) at (c .if1 .left)) (ap (λ (x : Written). (x .answer, a .cells .now)) (ruled .write-byte .ensures ∙ ap (λ (t : Transmitter). byteWritten t (a .offset) (a .byte)) is))
 
 pub write-transmitter-byte-spec : {M : Type 1} → statement M
-write-transmitter-byte-spec = tie.close (tie.spec load-transmitter-requires write-byte-requires store-transmitter-requires same-length returns)
+write-transmitter-byte-spec = tie.close (tie.spec (λ c. search needs) write-byte-requires (λ c. search needs) put-transmitter-requires (λ c. search needs) returns (λ c. search needs) returns-2)

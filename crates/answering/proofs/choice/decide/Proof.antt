@@ -6,13 +6,17 @@ use Rattle.answering.proofs.choice.decide.Statement.{statement}
 use Rattle.answering.proofs.choice.decide.Tie as tie
 
 returns : tie.Need-returns
-returns c = here _ (c .if1 .taken) refl
+returns c = here _ (rw (c .before .is-open-with-another .ensures) at (c .if1 .taken)) refl
 
 returns-2 : tie.Need-returns-2
-returns-2 c = past _ (c .before .before .before .if1 .left) (here _ (c .before .if2 .taken) (simp (c .decide-closed .ensures)))
+returns-2 c =
+    let other = c .before .before .before in
+    past _ (rw (other .before .is-open-with-another .ensures) at (other .if1 .left)) (here _ (c .before .if2 .taken) (simp (c .decide-closed .ensures)))
 
 returns-3 : tie.Need-returns-3
-returns-3 c = past _ (c .before .before .before .if1 .left) (past _ (c .before .if2 .left) (simp (c .decide-open .ensures)))
+returns-3 c =
+    let other = c .before .before .before in
+    past _ (rw (other .before .is-open-with-another .ensures) at (other .if1 .left)) (past _ (c .before .if2 .left) (simp (c .decide-open .ensures)))
 
 pub decide-spec : {M : Type 1} → statement M
-decide-spec = tie.close (tie.spec returns (λ c. search needs) returns-2 (λ c. search needs) returns-3)
+decide-spec = tie.close (tie.spec (λ c. search needs) returns (λ c. search needs) returns-2 (λ c. search needs) returns-3)

@@ -1,29 +1,27 @@
 -- The side out of its window, the rule, and the side put back.
-use mathlib.Core.Path.{ap, _∙_}
+use borrow.Author.Needs.{needs}
+use mathlib.Core.Path.{refl, ap, _∙_}
 use Rattle.cells.specs.Fitted.{putTransmitter}
-use Rattle.transmitter.specs.Down.{masterMissed}
+use Rattle.cells.specs.laws.FittedLaws.{transmitter-within}
+use Rattle.laws.specs.Pick.{past, here}
 use Rattle.transmitter.specs.laws.Keeps.{within-missed}
 use Rattle.bus.proofs.masterless.miss_at.Statement.{statement}
 use Rattle.bus.proofs.masterless.miss_at.Tie as tie
 
-load-transmitter-requires : tie.Need-load-transmitter-requires
-load-transmitter-requires c κs = let f = c .before .before .pre in (f .number, f .room)
-
-store-transmitter-requires : tie.Need-store-transmitter-requires
-store-transmitter-requires c κs =
-    let f = c .before .before .before .before .before .pre in
-    ((f .number, f .room), rw (c .before .miss-master .ensures, c .before .before .load-transmitter .ensures) (within-missed _ (f .transmitter)))
+put-transmitter-requires : tie.Need-put-transmitter-requires
+put-transmitter-requires c κs =
+    let start = c .before .before .before .before .before .before .before in
+    (start .pre, rw (c .miss-master .ensures, c .before .before .before .before .transmitter-of .ensures) (within-missed _ (transmitter-within _ _ (start .pre))))
 
 returns : tie.Need-returns
 returns c =
-    let stored = c .before .before in
-    let ruled = stored .before .before in
-    let loaded = ruled .before in
-    let a = loaded .before .before .before .args in
-    stored .store-transmitter .ensures
-    ∙ ap (putTransmitter (a .cells .now) (a .unit)) (ruled .miss-master .ensures ∙ ap masterMissed (loaded .load-transmitter .ensures))
+    let taken = c .before .before .before .before .before .before .before in
+    let a = taken .before .before .before .args in
+    here _ (rw (c .before .before .before .before .before .before .misses-master .ensures, taken .transmitter-of .ensures) at (c .before .before .before .before .before .if1 .taken))
+    (c .before .before .put-transmitter .ensures ∙ ap (putTransmitter (a .cells .now) (a .unit)) (rw (taken .transmitter-of .ensures) at (c .before .before .before .miss-master .ensures)))
+
+returns-2 : tie.Need-returns-2
+returns-2 c = past _ (rw (c .before .misses-master .ensures, c .before .before .transmitter-of .ensures) at (c .if1 .left)) refl
 
 pub miss-at-spec : {M : Type 1} → statement M
-miss-at-spec =
-    tie.close
-    (tie.spec load-transmitter-requires (λ c κs. tt) store-transmitter-requires (λ c. c .before .before .store-transmitter .kept .0) returns)
+miss-at-spec = tie.close (tie.spec (λ c. search needs) (λ c. search needs) (λ c. search needs) put-transmitter-requires (λ c. search needs) returns (λ c. search needs) returns-2)

@@ -4,26 +4,24 @@ use mathlib.Core.List.{List}
 use mathlib.Core.Path.{ap, _∙_}
 use Prim.Native.Nat.{ℕ, _+_}
 use Rattle.cells.specs.Fitted.{putMaster}
-use Rattle.cells.specs.laws.RoomLaws.{header-room}
 use Rattle.cells.specs.Layout.{putHolder}
+use Rattle.cells.specs.laws.FittedLaws.{master-within}
+use Rattle.cells.specs.laws.RoomLaws.{header-room}
 use Rattle.master.specs.laws.Laws.{within-taken-over}
 use Rattle.master.specs.Section.{takenOver}
 use Rattle.bus.proofs.masterless.take_over.Statement.{statement}
 use Rattle.bus.proofs.masterless.take_over.Tie as tie
 
-load-master-requires : tie.Need-load-master-requires
-load-master-requires c κs = let f = c .before .before .pre in (f .number, f .room)
-
-store-master-requires : tie.Need-store-master-requires
-store-master-requires c κs =
-    let f = c .before .before .before .before .before .pre in
-    ((f .number, f .room), rw (c .before .take-over .ensures, c .before .before .load-master .ensures) (within-taken-over _ (f .master)))
+put-master-requires : tie.Need-put-master-requires
+put-master-requires c κs =
+    let start = c .before .before .before .before .before in
+    (start .pre, rw (c .before .take-over .ensures, c .before .before .master-of .ensures) (within-taken-over _ (master-within _ _ (start .pre))))
 
 put-holder-requires : tie.Need-put-holder-requires
-put-holder-requires c κs = rw (c .before .before .before .store-master .kept .0) (header-room _ _ (c .before .before .before .before .before .before .before .before .before .pre .room))
+put-holder-requires c κs = rw (c .before .before .before .put-master .kept .0) (header-room _ _ (c .before .before .before .before .before .before .before .before .before .pre .room))
 
 same-length : tie.Need-same-length
-same-length c = c .before .before .put-holder .kept .0 ∙ c .before .before .before .before .before .before .store-master .kept .0
+same-length c = c .before .before .put-holder .kept .0 ∙ c .before .before .before .before .before .before .put-master .kept .0
 
 returns : tie.Need-returns
 returns c =
@@ -34,9 +32,9 @@ returns c =
     let a = loaded .before .before .before .args in
     named .put-holder .ensures
     ∙ ap (λ (l : List ℕ). putHolder l (a .unit + 1))
-    (stored .store-master .ensures ∙ ap (putMaster (a .cells .now) (a .unit)) (ruled .take-over .ensures ∙ ap takenOver (loaded .load-master .ensures)))
+    (stored .put-master .ensures ∙ ap (putMaster (a .cells .now) (a .unit)) (ruled .take-over .ensures ∙ ap takenOver (loaded .master-of .ensures)))
 
 pub take-over-spec : {M : Type 1} → statement M
 take-over-spec =
     tie.close
-    (tie.spec (λ c. search needs) (λ c. search needs) load-master-requires (λ c κs. tt) store-master-requires put-holder-requires same-length returns)
+    (tie.spec (λ c. search needs) (λ c. search needs) (λ c. search needs) (λ c κs. tt) put-master-requires put-holder-requires same-length returns)

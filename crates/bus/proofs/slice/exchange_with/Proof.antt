@@ -1,55 +1,53 @@
--- Both sides out of their windows, the slice between them, and both put back.
+-- Rule 1, or both sides out of their windows, the slice between them, and both put back.
+use borrow.Author.Needs.{needs}
 use mathlib.Core.Path.{ap, _∙_}
-use Rattle.cells.specs.Fitted.{transmitterOf, receiverOf}
+use Rattle.cells.specs.Fitted.{receiverOf}
+use Rattle.cells.specs.laws.FittedLaws.{still-fitted, transmitter-within, receiver-within}
+use Rattle.laws.specs.Pick.{past, here}
 use Rattle.receiver.specs.declared.side.Receiver.{Receiver}
-use Rattle.slices.specs.laws.Keeps.{within-transmitter, within-receiver}
 use Rattle.slices.specs.Slice.{exchanged}
+use Rattle.slices.specs.laws.Keeps.{within-transmitter, within-receiver}
 use Rattle.transmitter.specs.declared.side.Transmitter.{Transmitter}
 use Rattle.bus.specs.Slice.{putPair}
 use Rattle.bus.proofs.slice.exchange_with.Statement.{statement}
 use Rattle.bus.proofs.slice.exchange_with.Tie as tie
 
-load-receiver-requires : tie.Need-load-receiver-requires
-load-receiver-requires c κs = let f = c .before .before .pre .0 .1 in (f .number, f .room)
+send-unheard-requires : tie.Need-send-unheard-requires
+send-unheard-requires c κs = let start = c .before .before .before .before .before .before in (start .pre .0 .0, start .pre .1 .1)
+
+returns : tie.Need-returns
+returns c = here _ (rw (c .before .before .before .before .before .is-open-with-another .ensures, c .before .before .before .before .before .before .receiver-of .ensures) at (c .before .before .before .before .if1 .taken)) (c .before .before .send-unheard .ensures)
 
 exchange-requires : tie.Need-exchange-requires
 exchange-requires c κs =
-    let p = c .before .before .before .pre in
-    (rw (p .1 .1) (p .0 .0 .transmitter .block), rw (c .load-receiver .ensures) (p .0 .1 .receiver .block))
-
-store-transmitter-requires : tie.Need-store-transmitter-requires
-store-transmitter-requires c κs =
     let start = c .before .before .before .before .before in
-    let a = start .args in
-    let p = start .pre in
-    ((p .0 .0 .number, p .0 .0 .room), rw (c .before .exchange .ensures, p .1 .1) (within-transmitter (transmitterOf (a .cells .now) (a .unit)) (c .before .before .load-receiver .result) (a .from) (a .mask) (a .parity) (p .0 .0 .transmitter)))
+    (rw (start .pre .1 .1) (transmitter-within _ _ (start .pre .0 .0) .end .block), rw (c .before .before .receiver-of .ensures) (receiver-within _ _ (start .pre .0 .1) .end .block))
 
-store-receiver-requires : tie.Need-store-receiver-requires
-store-receiver-requires c κs =
-    let stored = c .before .before .before in
-    let ruled = stored .before .before in
-    let start = ruled .before .before .before .before in
+put-transmitter-requires : tie.Need-put-transmitter-requires
+put-transmitter-requires c κs =
+    let start = c .before .before .before .before .before .before .before in
     let a = start .args in
-    let f = start .pre .0 .1 in
-    ((f .number, rw (stored .store-transmitter .kept .0) (f .room)), rw (ruled .exchange .ensures, ruled .before .load-receiver .ensures) (within-receiver (a .t) _ (a .from) (a .mask) (a .parity) (f .receiver) (start .pre .1 .0)))
+    (start .pre .0 .0, rw (c .before .exchange .ensures, start .pre .1 .1) (within-transmitter _ (c .before .before .before .before .receiver-of .result) (a .from) (a .mask) (a .parity) (transmitter-within _ _ (start .pre .0 .0))))
 
-same-length : tie.Need-same-length
-same-length c = c .before .before .before .store-receiver .kept .0 ∙ c .before .before .before .before .before .before .before .store-transmitter .kept .0
-
-returns : tie.Need-returns
-returns c =
-    let last = c .before .before .before in
-    let first = last .before .before .before .before in
-    let ruled = first .before .before in
-    let loaded = ruled .before in
-    let start = loaded .before .before .before in
+put-receiver-requires : tie.Need-put-receiver-requires
+put-receiver-requires c κs =
+    let start = c .before .before .before .before .before .before .before .before .before .before .before in
     let a = start .args in
-    rw (last .store-receiver .ensures, first .store-transmitter .ensures)
+    (still-fitted (c .before .before .before .put-transmitter .kept .0) (start .pre .0 .1), rw (c .before .before .before .before .before .exchange .ensures, c .before .before .before .before .before .before .before .before .receiver-of .ensures) (within-receiver (a .t) _ (a .from) (a .mask) (a .parity) (receiver-within _ _ (start .pre .0 .1)) (start .pre .1 .0)))
+
+returns-2 : tie.Need-returns-2
+returns-2 c =
+    let given = c .before .before .before .before .before .before .before .before .before in
+    let asked = given .before .before in
+    let taken = asked .before in
+    let start = taken .before .before .before in
+    let a = start .args in
+    past _ (rw (asked .is-open-with-another .ensures, taken .receiver-of .ensures) at (given .before .if1 .left))
+    (rw (c .before .before .before .put-receiver .ensures, c .before .before .before .before .before .before .before .put-transmitter .ensures)
     (ap (putPair (a .cells .now) (a .unit) (a .other))
-    (ruled .exchange .ensures
-    ∙ ap (λ (r : Receiver). exchanged (a .t) r (a .from) (a .mask) (a .parity)) (loaded .load-receiver .ensures)
-    ∙ ap (λ (t : Transmitter). exchanged t (receiverOf (a .cells .now) (a .other)) (a .from) (a .mask) (a .parity)) (start .pre .1 .1)))
+    (given .exchange .ensures
+    ∙ ap (λ (r : Receiver). exchanged (a .t) r (a .from) (a .mask) (a .parity)) (taken .receiver-of .ensures)
+    ∙ ap (λ (t : Transmitter). exchanged t (receiverOf (a .cells .now) (a .other)) (a .from) (a .mask) (a .parity)) (start .pre .1 .1))))
 
 pub exchange-with-spec : {M : Type 1} → statement M
-exchange-with-spec =
-    tie.close (tie.spec load-receiver-requires exchange-requires store-transmitter-requires store-receiver-requires same-length returns)
+exchange-with-spec = tie.close (tie.spec (λ c. search needs) (λ c. search needs) send-unheard-requires (λ c. search needs) returns exchange-requires put-transmitter-requires put-receiver-requires (λ c. search needs) returns-2)

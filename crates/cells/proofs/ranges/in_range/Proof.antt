@@ -18,25 +18,9 @@ returns-2 c =
 returns-3 : tie.Need-returns-3
 unfolding inRange
 returns-3 c =
-    let e = c .before .before .count .ensures in
-    rw (
-      le-leb _ _ (c .before .before .before .if1 .left),
-      le-leb _ _ (rw e at (c .before .if2 .left)),
-      lt-leb _ _ (rw e at (c .if3 .taken)),
-    )
-
-returns-4 : tie.Need-returns-4
-unfolding inRange
-returns-4 c =
-    let tested = c .before .before .before in
-    let e = tested .before .before .count .ensures in
-    rw (
-      le-leb _ _ (tested .before .before .before .if1 .left),
-      le-leb _ _ (rw e at (tested .before .if2 .left)),
-      le-leb _ _ (rw e at (tested .if3 .left)),
-      c .units-in-range .ensures,
-      e,
-    )
+    let tested = c .before .before in
+    let e = tested .before .count .ensures in
+    rw (le-leb _ _ (tested .before .before .if1 .left), le-leb _ _ (rw e at (tested .if2 .left)), e)
 
 pub in-range-spec : {M : Type 1} → statement M
 in-range-spec =
@@ -47,8 +31,6 @@ in-range-spec =
     returns-2
     (λ c. search needs)
     (λ c. search needs)
-    returns-3
     (λ c. search needs)
     (λ c. search needs)
-    (λ c. search needs)
-    returns-4)
+    returns-3)

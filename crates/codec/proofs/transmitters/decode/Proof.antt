@@ -4,7 +4,19 @@ use Rattle.codec.proofs.transmitters.decode.Statement.{statement}
 use Rattle.codec.proofs.transmitters.decode.Tie as tie
 
 returns : tie.Need-returns
-returns c = simp (c .channel-of .ensures, c .before .outcome-of .ensures, c .before .before .faults-of .ensures, c .before .before .before .modes-of .ensures, c .before .before .before .before .commands-of .ensures, c .before .before .before .before .before .codes-of .ensures, c .before .before .before .before .before .before .load-of .ensures, c .before .before .before .before .before .before .before .silo-in .ensures)
+returns c =
+    let modes = c .before .before .before in
+    let end = modes .before in
+    simp (
+      c .channel-of .ensures,
+      c .before .outcome-in .ensures,
+      c .before .before .faults-in .ensures,
+      modes .modes-in .ensures,
+      end .end-in .ensures,
+      end .before .before .bit-at2 .ensures,
+      end .before .before .before .bit-at .ensures,
+      end .before .before .before .before .commands-in .ensures,
+    )
 
 pub decode-spec : {M : Type 1} → statement M
-decode-spec = tie.close (tie.spec (λ c. search needs) (λ c. search needs) (λ c. search needs) (λ c. search needs) (λ c. search needs) (λ c. search needs) (λ c. search needs) (λ c. search needs) (λ c. search needs) (λ c. search needs) (λ c. search needs) (λ c. search needs) (λ c. search needs) (λ c. search needs) (λ c. search needs) returns)
+decode-spec = tie.close (tie.spec (λ c. search needs) (λ c. search needs) (λ c. search needs) (λ c. search needs) (λ c. search needs) (λ c. search needs) (λ c. search needs) (λ c. search needs) (λ c. search needs) (λ c. search needs) (λ c. search needs) returns)

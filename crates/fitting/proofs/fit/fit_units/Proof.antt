@@ -1,15 +1,15 @@
 -- The units passed are fitted, and the cells are as many as they were.
 use borrow.Author.Needs.{needs}
-use mathlib.Core.Bool.{true}
 use mathlib.Core.List.{List}
 use mathlib.Core.Path.{_≡_, refl, ap, _∙_}
-use Prim.Native.Nat.{ℕ, _+_, _*_, _-_, _≤_, _<_}
+use Prim.Native.Nat.{ℕ, _+_, _*_, _-_, _≤_}
 use native.Mathlib.Numerals.{add-one}
 use native.Mathlib.Omega.{arith}
 use lib.ListN.{length}
-use Rattle.cells.specs.Layout.{unitPlace}
+use Rattle.cells.specs.Fitted.{Fitted}
+use Rattle.cells.specs.laws.FittedLaws.{still-fitted}
 use Rattle.fitting.specs.Fit.{unitsFitted, unitOf}
-use Rattle.fitting.specs.SetUp.{countOf, setUpGood}
+use Rattle.fitting.specs.SetUp.{countOf}
 use Rattle.fitting.specs.laws.SetUpLaws.{UnitGood, good-says}
 use Rattle.fitting.proofs.fit.fit_units.Statement.{statement}
 use Rattle.fitting.proofs.fit.fit_units.Tie as tie
@@ -28,9 +28,8 @@ loop-holds c = (omega arith, refl, refl, refl)
 -- what is known of the unit of this turn
 record Turn (setup cells : List ℕ) (unit : ℕ) : Type 0 where
   pub good : UnitGood setup unit
-  pub few : unit < 16
   pub long : unit * 4 + 4 ≤ length setup
-  pub room : unitPlace unit + 214 ≤ length cells
+  pub there : Fitted cells unit
 
 turn : (c : tie.In-loop Inv-loop μ-loop)
     → Turn (c .before .before .before .before .args .setup .now) (c .before .before .before .before .args .cells .now) (c .before .loop .unit)
@@ -41,34 +40,34 @@ turn c =
     let e = c .before .loop .inv .1 in
     let room = start .pre .1 in
     let less = c .loop-test .taken in
-    record { good = g .units (c .before .loop .unit) (omega arith); few = omega arith; long = omega arith; room = omega arith }
+    record { good = g .units (c .before .loop .unit) (omega arith); long = omega arith; there = record { number = omega arith; room = omega arith } }
 
 number-requires : tie.Need-number-requires Inv-loop μ-loop
-number-requires c κs = let t = turn c in omega (arith, t .few, t .long)
+number-requires c κs = let t = turn c in omega (arith, t .there .number, t .long)
 
 cast-transmitter : tie.Need-cast-transmitter Inv-loop μ-loop
 cast-transmitter c = omega (arith, c .number .ensures, turn (c .before) .good .transmitter .1)
 
 number-requires-2 : tie.Need-number-requires-2 Inv-loop μ-loop
-number-requires-2 c κs = let t = turn (c .before) in omega (arith, t .few, t .long)
+number-requires-2 c κs = let t = turn (c .before) in omega (arith, t .there .number, t .long)
 
 cast-receiver : tie.Need-cast-receiver Inv-loop μ-loop
 cast-receiver c = omega (arith, c .number2 .ensures, turn (c .before .before) .good .receiver .1)
 
 number-requires-3 : tie.Need-number-requires-3 Inv-loop μ-loop
-number-requires-3 c κs = let t = turn (c .before .before) in omega (arith, t .few, t .long)
+number-requires-3 c κs = let t = turn (c .before .before) in omega (arith, t .there .number, t .long)
 
 cast-switch : tie.Need-cast-switch Inv-loop μ-loop
 cast-switch c = omega (arith, c .number3 .ensures, turn (c .before .before .before) .good .switch .1)
 
 number-requires-4 : tie.Need-number-requires-4 Inv-loop μ-loop
-number-requires-4 c κs = let t = turn (c .before .before .before) in omega (arith, t .few, t .long)
+number-requires-4 c κs = let t = turn (c .before .before .before) in omega (arith, t .there .number, t .long)
 
 fit-unit-requires : tie.Need-fit-unit-requires Inv-loop μ-loop
 fit-unit-requires c κs =
     let t = turn (c .before .before .before .before .before) in
     let g = t .good in (
-      (t .few, omega (arith, t .room, c .before .before .before .before .before .before .loop .inv .2)),
+      still-fitted (c .before .before .before .before .before .before .loop .inv .2) (t .there),
       omega (
         arith,
         c .before .before .before .before .number .ensures,
@@ -77,6 +76,7 @@ fit-unit-requires c κs =
         c .before .number4 .ensures,
         g .transmitter .0,
         g .receiver .0,
+        g .switch .0,
         g .switch .1,
         g .memory .0,
         g .memory .1,
@@ -109,22 +109,4 @@ returns c =
     l .inv .3 ∙ ap (λ (n : ℕ). unitsFitted n (a .setup .now) (a .cells .now)) e
 
 pub fit-units-spec : {M : Type 1} → statement M
-fit-units-spec =
-    tie.close
-    (tie.spec
-    Inv-loop
-    μ-loop
-    loop-holds
-    number-requires
-    cast-transmitter
-    number-requires-2
-    cast-receiver
-    number-requires-3
-    cast-switch
-    number-requires-4
-    fit-unit-requires
-    (λ c. search needs)
-    (λ c. search needs)
-    loop-again
-    same-length
-    returns)
+fit-units-spec = tie.close (tie.spec Inv-loop μ-loop loop-holds number-requires cast-transmitter number-requires-2 cast-receiver number-requires-3 cast-switch number-requires-4 fit-unit-requires (λ c. search needs) (λ c. search needs) loop-again same-length returns)

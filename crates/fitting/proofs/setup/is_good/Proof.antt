@@ -3,7 +3,6 @@ use borrow.Author.Needs.{needs}
 use borrow.Author.Tests.{eq-eqb, ne-eqb, le-leb, lt-leb}
 use mathlib.Core.Bool.{not}
 use mathlib.Core.Path.{refl, ap}
-use native.Mathlib.Omega.{arith}
 use Rattle.laws.specs.Pick.{past, here}
 use Rattle.fitting.proofs.setup.is_good.Statement.{statement}
 use Rattle.fitting.proofs.setup.is_good.Tie as tie
@@ -25,11 +24,4 @@ returns-4 c =
     (past _ (ne-eqb _ _ (c .before .before .if2 .left)) (past _ (ap not (le-leb _ _ (c .before .if3 .left))) (c .units-are-good .ensures)))
 
 pub is-good-spec : {M : Type 1} → statement M
-is-good-spec =
-    tie.close
-    (tie.spec
-    returns
-    returns-2
-    returns-3
-    (λ c. search needs)
-    returns-4)
+is-good-spec = tie.close (tie.spec returns returns-2 returns-3 (λ c. search needs) returns-4)

@@ -28,14 +28,4 @@ returns c =
     rw (e, c .before .loop .inv .1)
 
 pub is-taken-spec : {M : Type 1} → statement M
-is-taken-spec =
-    tie.close
-    (tie.spec
-    Inv-loop
-    μ-loop
-    loop-holds
-    (λ c. search needs)
-    (λ c. search needs)
-    (λ c. search needs)
-    loop-again
-    returns)
+is-taken-spec = tie.close (tie.spec Inv-loop μ-loop loop-holds (λ c. search needs) (λ c. search needs) (λ c. search needs) loop-again returns)

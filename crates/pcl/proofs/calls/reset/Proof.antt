@@ -8,9 +8,7 @@ use Rattle.pcl.proofs.calls.reset.Statement.{statement}
 use Rattle.pcl.proofs.calls.reset.Tie as tie
 
 reset-unit-requires : tie.Need-reset-unit-requires
-reset-unit-requires c κs =
-    at-unit _ _ (sym (c .before .before .before .admit .ensures) ∙ c .before .enum-told3 .given .1)
-    (record { word = λ i. c .before .before .before .before .before .slice-known .given i .fits })
+reset-unit-requires c κs = at-unit _ _ (sym (c .before .before .before .admit .ensures) ∙ c .before .enum-told3 .given .1)
 
 returns : tie.Need-returns
 returns c = goes-on _ _ _ _ _ (sym (c .before .before .admit .ensures) ∙ c .enum-told .given .1) refl

@@ -6,9 +6,7 @@ use Rattle.pcl.proofs.calls.write_byte.Statement.{statement}
 use Rattle.pcl.proofs.calls.write_byte.Tie as tie
 
 write-unit-byte-requires : tie.Need-write-unit-byte-requires
-write-unit-byte-requires c κs =
-    at-unit _ _ (sym (c .before .before .before .admit .ensures) ∙ c .before .enum-told3 .given .1)
-    (record { word = λ i. c .before .before .before .before .before .slice-known .given i .fits })
+write-unit-byte-requires c κs = at-unit _ _ (sym (c .before .before .before .admit .ensures) ∙ c .before .enum-told3 .given .1)
 
 returns : tie.Need-returns
 returns c = goes-on _ _ _ _ _ (sym (c .before .before .admit .ensures) ∙ c .enum-told .given .1) refl

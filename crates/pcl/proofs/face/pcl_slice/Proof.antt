@@ -11,9 +11,8 @@ use Rattle.pcl.proofs.face.pcl_slice.Tie as tie
 
 pack-slice-requires : tie.Need-pack-slice-requires
 pack-slice-requires c κs =
-    let known = c .before .before .before .before in
-    let a = known .before .args in
-    rw (ap (λ (p : SliceCall × List ℕ). p .0) (c .before .before .slice .ensures)) (narrow (a .cells .now) (record { word = λ i. known .slice-known .given i .fits }) (a .mask) (a .parity))
+    let a = c .before .before .before .before .before .args in
+    rw (ap (λ (p : SliceCall × List ℕ). p .0) (c .before .before .slice .ensures)) (narrow (a .cells .now) (a .mask) (a .parity))
 
 returns : tie.Need-returns
 returns c = packed-as slicePacked (c .pack-slice .ensures) (c .before .before .before .slice .ensures)

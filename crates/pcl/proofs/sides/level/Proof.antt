@@ -5,9 +5,7 @@ use Rattle.pcl.proofs.sides.level.Statement.{statement}
 use Rattle.pcl.proofs.sides.level.Tie as tie
 
 level-fitted-requires : tie.Need-level-fitted-requires
-level-fitted-requires c κs =
-    at-unit _ _ (sym (c .before .before .admit .ensures) ∙ c .enum-told3 .given .1)
-    (record { word = λ i. c .before .before .before .shared-slice-known .given i .fits })
+level-fitted-requires c κs = at-unit _ _ (sym (c .before .before .admit .ensures) ∙ c .enum-told3 .given .1)
 
 returns : tie.Need-returns
 returns c = goes-on _ _ _ _ _ (sym (c .before .before .admit .ensures) ∙ c .enum-told .given .1) refl

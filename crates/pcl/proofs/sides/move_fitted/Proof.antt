@@ -1,14 +1,13 @@
 -- The room of the memory, and then the move at the side that is named.
 use borrow.Author.Tests.{eq-eqb, ne-eqb, lt-ltb, le-ltb}
 use mathlib.Core.Path.{refl, ap}
-use native.Mathlib.Omega.{arith}
 use Rattle.laws.specs.Pick.{past, here}
 use Rattle.pcl.specs.Sides.{sentBy, receivedBy}
 use Rattle.pcl.proofs.sides.move_fitted.Statement.{statement}
 use Rattle.pcl.proofs.sides.move_fitted.Tie as tie
 
 memory-length-requires : tie.Need-memory-length-requires
-memory-length-requires c κs = let f = c .before .before .before .pre .2 in (f .number, omega (arith, f .room))
+memory-length-requires c κs = c .before .before .before .pre
 
 returns : tie.Need-returns
 returns c = here _ (lt-ltb _ _ (rw (c .before .memory-length .ensures) at (c .if1 .taken))) refl

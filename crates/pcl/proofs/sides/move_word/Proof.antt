@@ -1,13 +1,11 @@
 -- What the admission leads to: a refusal, or the move at a fitted unit.
 use mathlib.Core.Path.{refl, sym, _∙_}
-use Rattle.pcl.specs.laws.Admitted.{goes-on, ranged, there, at-unit}
+use Rattle.pcl.specs.laws.Admitted.{goes-on, at-unit}
 use Rattle.pcl.proofs.sides.move_word.Statement.{statement}
 use Rattle.pcl.proofs.sides.move_word.Tie as tie
 
 move-fitted-requires : tie.Need-move-fitted-requires
-move-fitted-requires c κs =
-    let e = sym (c .before .before .before .before .admit .ensures) ∙ c .before .before .enum-told3 .given .1 in
-    (ranged _ _ e, there _ _ e, at-unit _ _ e (record { word = λ i. c .before .before .before .before .before .before .before .slice-known .given i .fits }))
+move-fitted-requires c κs = at-unit _ _ (sym (c .before .before .before .before .admit .ensures) ∙ c .before .before .enum-told3 .given .1)
 
 returns : tie.Need-returns
 returns c = goes-on _ _ _ _ _ (sym (c .before .before .admit .ensures) ∙ c .enum-told .given .1) refl

@@ -31,7 +31,7 @@ store-word-requires c κs =
     let placed = c .before .before .before .before in
     let a = placed .before .before .before .before .before .before .args in
     let at = c .before .before .at .given in
-    let inside = inside-lt (a .r .load .address .0) (a .fitted) (at .0 .0) (sym (placed .find-place .ensures) ∙ at .1) in
+    let inside = inside-lt (a .r .end .load .address .0) (a .fitted) (at .0 .0) (sym (placed .find-place .ensures) ∙ at .1) in
     (search needs, omega arith)
 
 returns-4 : tie.Need-returns-4

@@ -15,8 +15,9 @@ returns-2 c =
 
 returns-3 : tie.Need-returns-3
 returns-3 c =
-    past _ (rw (c .before .before .before .before .is-empty .ensures) at (c .before .before .before .if1 .left))
-    (past _ (c .before .if2 .left) (simp (c .take .ensures, c .before .before .oldest .ensures)))
+    let read = c .before .before .before in
+    past _ (rw (read .before .before .is-empty .ensures) at (read .before .if1 .left))
+    (past _ (c .before .before .if2 .left) (simp (c .take .ensures, read .oldest .ensures)))
 
 pub read-data-spec : {M : Type 1} → statement M
 read-data-spec = tie.close (tie.spec (λ c. search needs) returns (λ c. search needs) returns-2 (λ c. search needs) returns-3)

@@ -7,7 +7,7 @@ use Rattle.receiver_registers.proofs.shown.control_word.Tie as tie
 control-bits-requires : tie.Need-control-bits-requires
 control-bits-requires c κs =
     let start = c .before .before .before .before in
-    let bits = start .pre .load .eighteenBits in
+    let bits = start .pre .end .load .eighteenBits in
     (start .pre, rw (c .before .extension .ensures) (omega arith))
 
 returns : tie.Need-returns

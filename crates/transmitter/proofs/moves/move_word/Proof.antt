@@ -21,7 +21,7 @@ returns-2 c =
 -- the word is in the memory
 inside : (c : tie.After-known-told) → c .before .at .given .0 .0 < c .before .before .before .before .before .before .before .before .before .args .fitted
 inside c =
-    inside-lt (c .before .before .before .before .before .before .before .before .before .args .t .load .address .0) (c .before .before .before .before .before .before .before .before .before .args .fitted) (c .before .at .given .0 .0)
+    inside-lt (c .before .before .before .before .before .before .before .before .before .args .t .end .load .address .0) (c .before .before .before .before .before .before .before .before .before .args .fitted) (c .before .at .given .0 .0)
     (sym (c .before .before .before .place .ensures) ∙ c .before .at .given .1)
 
 mul-load-word : tie.Need-mul-load-word

@@ -8,7 +8,7 @@ returns : tie.Need-returns
 returns c = here _ (rw (c .before .before .before .before .is-busy .ensures) at (c .before .before .if1 .taken)) (simp (c .fail .ensures))
 
 returns-2 : tie.Need-returns-2
-returns-2 c = past _ (rw (c .before .before .before .is-busy .ensures) at (c .before .if1 .left)) (simp (c .settle .ensures))
+returns-2 c = past _ (rw (c .before .before .before .before .is-busy .ensures) at (c .before .before .if1 .left)) (simp (c .settle .ensures))
 
 pub pass-period-spec : {M : Type 1} → statement M
 pass-period-spec = tie.close (tie.spec (λ c. search needs) (λ c. search needs) returns (λ c. search needs) returns-2)

@@ -1,10 +1,10 @@
--- What the calls gave.
+-- What the call gave.
 use borrow.Author.Needs.{needs}
 use Rattle.transmitter.proofs.side.start.Statement.{statement}
 use Rattle.transmitter.proofs.side.start.Tie as tie
 
 returns : tie.Need-returns
-returns c = simp (c .none2 .ensures, c .before .none .ensures, c .before .before .empty .ensures)
+returns c = simp (c .none .ensures)
 
 pub start-spec : {M : Type 1} → statement M
-start-spec = tie.close (tie.spec (λ c. search needs) (λ c. search needs) (λ c. search needs) returns)
+start-spec = tie.close (tie.spec (λ c. search needs) returns)

@@ -10,8 +10,8 @@ returns c = here _ (rw (c .before .is-empty .ensures) at (c .if1 .taken)) refl
 
 returns-2 : tie.Need-returns-2
 returns-2 c =
-    past _ (rw (c .before .before .before .before .is-empty .ensures) at (c .before .before .before .if1 .left))
-    (here _ (c .before .if2 .taken) (simp (c .take .ensures, c .before .before .oldest .ensures)))
+    past _ (rw (c .before .before .before .before .before .is-empty .ensures) at (c .before .before .before .before .if1 .left))
+    (here _ (c .before .before .if2 .taken) (simp (c .take .ensures, c .before .before .before .oldest .ensures)))
 
 returns-3 : tie.Need-returns-3
 returns-3 c =

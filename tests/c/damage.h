@@ -1,0 +1,28 @@
+/* damage.h - a unit whose cells hold anything, on both libraries. */
+#ifndef DAMAGE_H
+#define DAMAGE_H
+
+#include "both.h"
+#include "random.h"
+
+static uint16_t damaged(uint16_t cell)
+{
+    return once_in(3) ? (uint16_t)(cell ^ 1u << below(16)) : once_in(3) ? (uint16_t)below(140) : any_word();
+}
+
+/* One cell of its block from `least` on, some of them, or all behind one. The second library reads what the cells then mean. */
+static void damage_unit(uint32_t unit, uint32_t least)
+{
+    static const uint32_t heads[] = { 0, TRANSMITTER, RECEIVER, SECTION };
+    uint32_t first = once_in(2) ? heads[below(4)] + below(8) : below(BLOCK);
+    uint32_t count = once_in(3) ? 1 : once_in(3) ? BLOCK : 1 + below(12);
+    uint16_t *block = cells + block_at(unit);
+
+    for (uint32_t i = first < least ? least : first; i < first + count && i < BLOCK; i++)
+        block[i] = damaged(block[i]);
+    untidy = true;
+    of_cells(cells, &l);
+    memcpy(cells_before, cells, sizeof cells);
+}
+
+#endif
