@@ -15,5 +15,4 @@ pub mod Slicing
 pub mod Start
 pub mod Storing
 pub mod Waiting
-pub mod WordsKept
 pub mod WrittenWords

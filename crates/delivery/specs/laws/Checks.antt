@@ -16,7 +16,6 @@ use Rattle.delivery.specs.laws.Invariant.{Channel, Delivering, Receiving
 use Rattle.delivery.specs.laws.Slices.{State, Well, falls}
 use Rattle.delivery.specs.laws.Storing.{until-4}
 use Rattle.delivery.specs.laws.Waiting.{all-sent, not-all-sent, silo-emptied}
-use Rattle.delivery.specs.laws.WordsKept.{sending-kept, receiving-kept}
 
 module _ (m : Message) (x : Ends) where
   abbrev n : ℕ
@@ -47,19 +46,15 @@ module _ (m : Message) (x : Ends) where
       to d (State.words s 0)
       (due-verdict (x .transmitter) (x .receiver) (m .from) i (o .isEnding) (o .isAwaiting) (d .channel .1) (o .isOwed) (o .isGood))
       (falls n (State.due s) (d .well) .0)
-      (sending-kept (d .sending) _ _ _ _ _ _ _ _ _)
-      (receiving-kept (d .receiving) _ _ _ _ _ _ _ _ _ _ _ _) (
+      (d .sending)
+      (d .receiving) (
         record {
           inStep = in-step-restarted (x .transmitter) (x .receiver) (m .from) i;
-          latched = o .latched;
+          lasting = o .lasting;
           isEnding = o .isEnding;
           isAwaiting = refl;
           isOwed = refl;
           isGood = refl;
-          notTruncated = o .notTruncated;
-          noSuccess = o .noSuccess;
-          notRefused = o .notRefused;
-          noSuccessThere = o .noSuccessThere;
         },
         refl,
       )
@@ -73,10 +68,10 @@ module _ (m : Message) (x : Ends) where
       let stopped = until-4 (x .receiver) (x .receiving) (m .receivingLength) (until .receiver) in
       let none = silo-emptied m n (x .receiver) (x .receiving) (d .receiving) stopped in
       to d State.done
-      (last-verdict (x .transmitter) (x .receiver) (m .from) i (o .isEnding) (o .isOwed) (o .isGood) none (o .notTruncated))
+      (last-verdict (x .transmitter) (x .receiver) (m .from) i (o .isEnding) (o .isOwed) (o .isGood) none (o .lasting .notTruncated))
       tt
-      (sending-kept (d .sending) _ _ _ _ _ _ _ _ _)
-      (receiving-kept (d .receiving) _ _ _ _ _ _ _ _ _ _ _ _)
+      (d .sending)
+      (d .receiving)
       (record {
         shut = refl;
         shutThere = refl;
@@ -107,19 +102,15 @@ module _ (m : Message) (x : Ends) where
         to d State.last
         (last-step (x .transmitter) (x .receiver) (m .from) i (o .isEnding) (o .isAwaiting) sent (o .isOwed))
         tt
-        (sending-kept (subst (λ (k : ℕ). Sending m k (x .transmitter)) all (d .sending)) _ _ _ _ _ _ _ _ _)
-        (receiving-kept (subst (λ (k : ℕ). Receiving m k (x .receiver) (x .receiving)) all (d .receiving)) _ _ _ _ _ _ _ _ _ _ _ _)
+        (subst (λ (k : ℕ). Sending m k (x .transmitter)) all (d .sending))
+        (subst (λ (k : ℕ). Receiving m k (x .receiver) (x .receiving)) all (d .receiving))
         (record {
           inStep = in-step-last (x .transmitter) (x .receiver) (m .from) i;
-          latched = o .latched;
+          lasting = o .lasting;
           isEnding = refl;
           isAwaiting = o .isAwaiting;
           isOwed = refl;
           isGood = refl;
-          notTruncated = o .notTruncated;
-          noSuccess = o .noSuccess;
-          notRefused = o .notRefused;
-          noSuccessThere = o .noSuccessThere;
         })
 
     module _ (more : s < n) where
@@ -132,19 +123,15 @@ module _ (m : Message) (x : Ends) where
           to d (State.due s)
           (due-step (x .transmitter) (x .receiver) (m .from) i (o .isEnding) (o .isAwaiting) notAll (d .channel .1 ∙ full) (o .isOwed))
           more
-          (sending-kept (d .sending) _ _ _ _ _ _ _ _ _)
-          (receiving-kept (d .receiving) _ _ _ _ _ _ _ _ _ _ _ _) (
+          (d .sending)
+          (d .receiving) (
             record {
               inStep = in-step-due (x .transmitter) (x .receiver) (m .from) i;
-              latched = o .latched;
+              lasting = o .lasting;
               isEnding = o .isEnding;
               isAwaiting = refl;
               isOwed = refl;
               isGood = refl;
-              notTruncated = o .notTruncated;
-              noSuccess = o .noSuccess;
-              notRefused = o .notRefused;
-              noSuccessThere = o .noSuccessThere;
             },
             d .channel .1 ∙ full,
           )

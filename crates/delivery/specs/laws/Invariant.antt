@@ -9,10 +9,13 @@ use lib.Seq.{paste, slice as part}
 use Rattle.receiver.specs.Side as R
 use Rattle.receiver.specs.declared.side.Receiver.{Receiver}
 use Rattle.silos.specs.Silo.{Sized, isEmpty, words as held}
+use Rattle.silos.specs.declared.Silo.{Silo}
 use Rattle.slices.specs.laws.InStep.{InStep}
 use Rattle.transmitter.specs.Side as T
+use Rattle.transmitter.specs.declared.side.Modes.{Modes}
 use Rattle.transmitter.specs.declared.side.Transmitter.{Transmitter}
 use Rattle.words.specs.Load.{Bounded, wordsLeft}
+use Rattle.words.specs.declared.load.Load.{Load}
 use Rattle.delivery.specs.Conditions.{Apart, Stretch}
 use Rattle.delivery.specs.Ends.{Ends, Message}
 use Rattle.delivery.specs.laws.Slices.{State, Well}
@@ -32,53 +35,66 @@ pub record Laid (m : Message) : Type 0 where
 abbrev pub Holds : Message → List ℕ → Type 0
 Holds m memory = (i : ℕ) → i < length (m .rest) → getD memory (m .source + i) 0 ≡ getD (m .rest) i 0
 
--- T's silo, and after it what the load has left, are the words to come
-pub record Sending (m : Message) (s : ℕ) (t : Transmitter) : Type 0 where
-  pub sized : Sized 64 (t .end .silo)
-  pub bounded : Bounded (t .end .load)
+-- a silo, and after it what the load has left, are the words to come
+pub record SendingFrom (m : Message) (s : ℕ) (silo : Silo) (load : Load) (modes : Modes) (error reject : Bool) : Type 0 where
+  pub sized : Sized 64 silo
+  pub bounded : Bounded load
   -- so many words the load has moved since the opening
   pub gone : ℕ
-  pub left : wordsLeft (t .end .load) + gone ≡ length (m .rest)
-  pub place : t .end .load .address .0 ≡ (m .source + gone) * 2
-  pub toCome : held (t .end .silo) ++ drop gone (m .rest) ≡ drop s (m .content)
-  pub requests : 1 ≤ wordsLeft (t .end .load) → t .modes .memoryRequests ≡ true
-  pub increments : t .modes .inhibitIncrement ≡ false
-  pub readSilo : t .modes .readSilo ≡ false
-  pub destination : t .modes .destination ≡ m .to
-  pub noError : T.hasError t ≡ false
-  pub noReject : t .outcome .softwareReject ≡ false
+  pub left : wordsLeft load + gone ≡ length (m .rest)
+  pub place : load .address .0 ≡ (m .source + gone) * 2
+  pub toCome : held silo ++ drop gone (m .rest) ≡ drop s (m .content)
+  pub requests : 1 ≤ wordsLeft load → modes .memoryRequests ≡ true
+  pub increments : modes .inhibitIncrement ≡ false
+  pub readSilo : modes .readSilo ≡ false
+  pub destination : modes .destination ≡ m .to
+  pub noError : error ≡ false
+  pub noReject : reject ≡ false
 
--- the receiving memory has the first of the words sent, and is otherwise as at the opening; R's silo has the others
-pub record Receiving (m : Message) (s : ℕ) (r : Receiver) (memory : List ℕ) : Type 0 where
-  pub sized : Sized 64 (r .end .silo)
-  pub bounded : Bounded (r .end .load)
+-- T's: it stays with whatever changes at T besides these
+abbrev pub Sending : Message → ℕ → Transmitter → Type 0
+Sending m s t = SendingFrom m s (t .end .silo) (t .end .load) (t .modes) (T.hasError t) (t .outcome .softwareReject)
+
+-- the receiving memory has the first of the words sent, and is otherwise as at the opening; the silo has the others
+pub record ReceivingIn (m : Message) (s : ℕ) (memory : List ℕ) (silo : Silo) (load : Load) (requesting inhibiting error reject : Bool) : Type 0 where
+  pub sized : Sized 64 silo
+  pub bounded : Bounded load
   -- so many words are in the memory
   pub stored : ℕ
   pub sent : stored ≤ s
-  pub enough : length (m .content) ≤ wordsLeft (r .end .load) + stored
-  pub place : r .end .load .address .0 ≡ (m .target + stored) * 2
-  pub inSilo : held (r .end .silo) ≡ part stored s (m .content)
+  pub enough : length (m .content) ≤ wordsLeft load + stored
+  pub place : load .address .0 ≡ (m .target + stored) * 2
+  pub inSilo : held silo ≡ part stored s (m .content)
   pub inMemory : memory ≡ paste (m .before) (m .target) (m .content) stored
-  pub requests : r .modes .memoryRequests ≡ true
-  pub increments : r .modes .inhibitIncrement ≡ false
-  pub noError : R.hasError r ≡ false
-  pub noReject : r .outcome .rejectComplete ≡ false
+  pub requests : requesting ≡ true
+  pub increments : inhibiting ≡ false
+  pub noError : error ≡ false
+  pub noReject : reject ≡ false
+
+-- R's: it stays with whatever changes at R besides these
+abbrev pub Receiving : Message → ℕ → Receiver → List ℕ → Type 0
+Receiving m s r memory =
+    ReceivingIn m s memory (r .end .silo) (r .end .load) (r .modes .memoryRequests) (r .modes .inhibitIncrement) (R.hasError r) (r .outcome .rejectComplete)
 
 -- ---- the channel
+
+-- what no slice of an open channel changes: where it leads, and that nothing has ended it
+pub record Lasting (m : Message) (destination : ℕ) (truncated success busBusy successThere : Bool) : Type 0 where
+  pub latched : destination ≡ m .to
+  pub notTruncated : truncated ≡ false
+  pub noSuccess : success ≡ false
+  -- TBS BSY, which the opening clears
+  pub notRefused : busBusy ≡ false
+  pub noSuccessThere : successThere ≡ false
 
 -- open and in step: whether T is ending, whether the verdict on a due CRC is awaited, whether R owes a verdict, which is then good
 pub record Open (m : Message) (ending awaiting owed : Bool) (t : Transmitter) (r : Receiver) : Type 0 where
   pub inStep : InStep t r (m .from)
-  pub latched : t .channel .destination ≡ m .to
+  pub lasting : Lasting m (t .channel .destination) (r .channel .truncated) (t .outcome .success) (t .outcome .busBusy) (r .outcome .success)
   pub isEnding : t .channel .ending ≡ ending
   pub isAwaiting : t .channel .awaiting ≡ awaiting
   pub isOwed : r .channel .owed ≡ owed
   pub isGood : r .channel .good ≡ owed
-  pub notTruncated : r .channel .truncated ≡ false
-  pub noSuccess : t .outcome .success ≡ false
-  -- TBS BSY, which the opening clears
-  pub notRefused : t .outcome .busBusy ≡ false
-  pub noSuccessThere : r .outcome .success ≡ false
 
 -- closed with success, and neither end begins a message of its own
 pub record Closed (t : Transmitter) (r : Receiver) : Type 0 where

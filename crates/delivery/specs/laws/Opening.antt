@@ -28,7 +28,6 @@ use Rattle.delivery.specs.laws.SendingWords.{next-word, sending-word}
 use Rattle.delivery.specs.laws.Slices as Slices
 use Rattle.delivery.specs.laws.Start as Start
 use Rattle.delivery.specs.laws.Waiting.{has-room}
-use Rattle.delivery.specs.laws.WordsKept.{sending-kept, receiving-kept}
 
 module _ (x : Ends) (from sendingLength receivingLength : ℕ) (shared : Bool) (c : Conditions x sendingLength receivingLength shared) where
   abbrev message : Message
@@ -83,23 +82,20 @@ module _ (x : Ends) (from sendingLength receivingLength : ℕ) (shared : Bool) (
           well = omega (arith, c .some);
           holds = Start.holds x from sendingLength receivingLength shared c;
           one = one;
-          sending = sending-kept (sending-word message 0 (x .transmitter) k more some-word) _ _ _ _ _ _ _ _ _;
+          sending = sending-word message 0 (x .transmitter) k more some-word;
           receiving =
               subst (λ (w : ℕ). Receiving message 1 (R.afterWord (listeningTo (x .receiver) from) w) (x .receiving)) (sym word)
               (receiving-word message 0 (listeningTo (x .receiver) from) (x .receiving)
-              (receiving-kept (Start.receiving x from sendingLength receivingLength shared c withinR) _ _ _ _ _ _ _ _ _ _ _ _) more (has-room (x .receiver) (c .siloEmpty)));
+              (Start.receiving x from sendingLength receivingLength shared c withinR) more (has-room (x .receiver) (c .siloEmpty)));
           channel = (
             record {
               inStep = in-step-opened (x .transmitter) (x .receiver) from sender ready;
-              latched = refl;
+              lasting =
+                  record { latched = refl; notTruncated = refl; noSuccess = c .transmitterNoSuccess; notRefused = refl; noSuccessThere = c .receiverNoSuccess };
               isEnding = refl;
               isAwaiting = refl;
               isOwed = refl;
               isGood = refl;
-              notTruncated = refl;
-              noSuccess = c .transmitterNoSuccess;
-              notRefused = refl;
-              noSuccessThere = c .receiverNoSuccess;
             },
             refl,
           );

@@ -25,9 +25,9 @@ use Rattle.delivery.specs.laws.Slices.{State}
 -- ---- T's slices go to R
 
 pub addressed : (m : Message) (q : State) (x : Ends) → Delivering m q x → destinationOf (x .transmitter) ≡ m .to
-addressed m (State.words s c) x d = rw (d .channel .0 .inStep .talking .opened) (d .channel .0 .latched)
-addressed m (State.due s) x d = rw (d .channel .0 .inStep .talking .opened) (d .channel .0 .latched)
-addressed m State.last x d = rw (d .channel .inStep .talking .opened) (d .channel .latched)
+addressed m (State.words s c) x d = rw (d .channel .0 .inStep .talking .opened) (d .channel .0 .lasting .latched)
+addressed m (State.due s) x d = rw (d .channel .0 .inStep .talking .opened) (d .channel .0 .lasting .latched)
+addressed m State.last x d = rw (d .channel .inStep .talking .opened) (d .channel .lasting .latched)
 addressed m State.done x d = rw (d .channel .shut) (d .sending .destination)
 
 -- ---- "but for the host's memory writes": any change of the sending memory that leaves the sent stretch, where R's is another

@@ -21,8 +21,8 @@ module _ (m : Message) (x : Ends) where
       record {
         opened = o .inStep .talking .opened;
         openedThere = o .inStep .listening .opened;
-        noSuccess = o .noSuccess;
-        noSuccessThere = o .noSuccessThere;
+        noSuccess = o .lasting .noSuccess;
+        noSuccessThere = o .lasting .noSuccessThere;
         noReject = d .sending .noReject;
         noRejectThere = d .receiving .noReject;
         noError = d .sending .noError;

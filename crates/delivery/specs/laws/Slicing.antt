@@ -19,7 +19,6 @@ use Rattle.delivery.specs.laws.SendingWords.{next-word, sending-word}
 use Rattle.delivery.specs.laws.Slices.{State, slice}
 use Rattle.delivery.specs.laws.Storing as Storing
 use Rattle.delivery.specs.laws.Waiting.{has-room, not-all-sent, silo-emptied, word-waits}
-use Rattle.delivery.specs.laws.WordsKept.{sending-kept}
 
 -- s words were sent, and fewer than 128 of them since the last CRC: the next word is sent and stored
 module _ (m : Message) (x : Ends) (s c : ℕ) (d : Delivering m (State.words s c) x) (more : s < length (m .content)) where
@@ -37,20 +36,16 @@ module _ (m : Message) (x : Ends) (s c : ℕ) (d : Delivering m (State.words s c
       to m x d (State.words (s + 1) (c + 1))
       (word-step (x .transmitter) (x .receiver) (m .from) i (o .isEnding) (o .isAwaiting) notAll (rw (d .channel .1) short) some room)
       (omega arith)
-      (sending-kept (sending-word m s (x .transmitter) k more some) _ _ _ _ _ _ _ _ _)
+      (sending-word m s (x .transmitter) k more some)
       (subst (λ (w : ℕ). Receiving m (s + 1) (afterWord (x .receiver) w) (x .receiving)) (sym word)
       (receiving-word m s (x .receiver) (x .receiving) (d .receiving) more room)) (
         record {
           inStep = in-step-word (x .transmitter) (x .receiver) (m .from) i;
-          latched = o .latched;
+          lasting = o .lasting;
           isEnding = o .isEnding;
           isAwaiting = o .isAwaiting;
           isOwed = o .isOwed;
           isGood = o .isGood;
-          notTruncated = o .notTruncated;
-          noSuccess = o .noSuccess;
-          notRefused = o .notRefused;
-          noSuccessThere = o .noSuccessThere;
         },
         ap (λ (b : ℕ). b + 1) (d .channel .1),
       )

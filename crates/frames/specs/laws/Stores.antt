@@ -27,7 +27,7 @@ use Rattle.receiver.specs.declared.side.Receiver.{Receiver}
 use Rattle.transmitter.specs.Side as T
 use Rattle.transmitter.specs.declared.side.Transmitter.{Transmitter}
 use Rattle.frames.specs.laws.Kept.{Kept, kept-then}
-use Rattle.frames.specs.laws.Leaves.{Leaves, OthersStay, Agree, agrees, still-fitted}
+use Rattle.frames.specs.laws.Leaves.{Holds, Leaves, OthersStay, Agree, agrees, still-fitted}
 use Rattle.frames.specs.laws.Sides.{Sides, replaced, replaced-same, withHolder, withTransmitter, withReceiver, withMaster}
 
 -- of a family, one stored at u, and the others as they were
@@ -51,59 +51,50 @@ module _ {touched : ℕ → Type 0} {cells middle : List ℕ} {s : Sides} (l : L
     others-stay here-too o w part k there apart j h =
         cell-kept middle u here o w part k j h (λ e. absurd (apart (subst⁻¹ touched e here-too))) ∙ l .others k there apart j h
 
+    -- of the cells with one part written, the sides are left to say
+    side-stored : touched u → (o : ℕ) (w : List ℕ) (after : Sides) → 4 ≤ o → o + length w ≤ 214
+        → Holds (splice middle (unitPlace u + o) w) (countIn cells) after → Leaves touched cells (splice middle (unitPlace u + o) w) after
+    side-stored here-too o w after side part holds =
+        record { ranged = in-range-kept middle u here o w part ∙ l .ranged; kept = side-kept o w side part; holds = holds; others = others-stay here-too o w part }
+
     pub transmitter-stored : touched u → (t : Transmitter) → T.Within t → Leaves touched cells (putTransmitter middle u t) (withTransmitter s u t)
     transmitter-stored here-too t h =
         let part = Put.transmitter-part t h in
-        record {
-          ranged = in-range-kept middle u here 4 (encTransmitter t) part ∙ l .ranged;
-          kept = side-kept 4 (encTransmitter t) (lit≤ tt) part;
-          holds =
-              record {
-                holder = holder-kept middle u here 4 (encTransmitter t) part ∙ l .holds .holder;
-                transmitter = λ k there.
-                    stored (transmitterOf (putTransmitter middle u t)) (s .transmitter) u t (Put.transmitter-put middle u here t h) k
-                    (λ other. Put.transmitter-after-transmitter middle u here t h k (still-fitted l k there) other ∙ l .holds .transmitter k there);
-                receiver = λ k there. Put.receiver-after-transmitter middle u here t h k (still-fitted l k there) ∙ l .holds .receiver k there;
-                master = λ k there. Put.master-after-transmitter middle u here t h k (still-fitted l k there) ∙ l .holds .master k there;
-              };
-          others = others-stay here-too 4 (encTransmitter t) part;
-        }
+        side-stored here-too 4 (encTransmitter t) _ (lit≤ tt) part
+        (record {
+          holder = holder-kept middle u here 4 (encTransmitter t) part ∙ l .holds .holder;
+          transmitter = λ k there.
+              stored (transmitterOf (putTransmitter middle u t)) (s .transmitter) u t (Put.transmitter-put middle u here t h) k
+              (λ other. Put.transmitter-after-transmitter middle u here t h k (still-fitted l k there) other ∙ l .holds .transmitter k there);
+          receiver = λ k there. Put.receiver-after-transmitter middle u here t h k (still-fitted l k there) ∙ l .holds .receiver k there;
+          master = λ k there. Put.master-after-transmitter middle u here t h k (still-fitted l k there) ∙ l .holds .master k there;
+        })
 
     pub receiver-stored : touched u → (r : Receiver) → R.Within r → Leaves touched cells (putReceiver middle u r) (withReceiver s u r)
     receiver-stored here-too r h =
         let part = Put.receiver-part r h in
-        record {
-          ranged = in-range-kept middle u here 76 (encReceiver r) part ∙ l .ranged;
-          kept = side-kept 76 (encReceiver r) (lit≤ tt) part;
-          holds =
-              record {
-                holder = holder-kept middle u here 76 (encReceiver r) part ∙ l .holds .holder;
-                transmitter = λ k there. Put.transmitter-after-receiver middle u here r h k (still-fitted l k there) ∙ l .holds .transmitter k there;
-                receiver = λ k there.
-                    stored (receiverOf (putReceiver middle u r)) (s .receiver) u r (Put.receiver-put middle u here r h) k
-                    (λ other. Put.receiver-after-receiver middle u here r h k (still-fitted l k there) other ∙ l .holds .receiver k there);
-                master = λ k there. Put.master-after-receiver middle u here r h k (still-fitted l k there) ∙ l .holds .master k there;
-              };
-          others = others-stay here-too 76 (encReceiver r) part;
-        }
+        side-stored here-too 76 (encReceiver r) _ (lit≤ tt) part
+        (record {
+          holder = holder-kept middle u here 76 (encReceiver r) part ∙ l .holds .holder;
+          transmitter = λ k there. Put.transmitter-after-receiver middle u here r h k (still-fitted l k there) ∙ l .holds .transmitter k there;
+          receiver = λ k there.
+              stored (receiverOf (putReceiver middle u r)) (s .receiver) u r (Put.receiver-put middle u here r h) k
+              (λ other. Put.receiver-after-receiver middle u here r h k (still-fitted l k there) other ∙ l .holds .receiver k there);
+          master = λ k there. Put.master-after-receiver middle u here r h k (still-fitted l k there) ∙ l .holds .master k there;
+        })
 
     pub master-stored : touched u → (m : Master) → M.Within m → Leaves touched cells (putMaster middle u m) (withMaster s u m)
     master-stored here-too m h =
         let part = Put.master-part m h in
-        record {
-          ranged = in-range-kept middle u here 148 (encMaster m) part ∙ l .ranged;
-          kept = side-kept 148 (encMaster m) (lit≤ tt) part;
-          holds =
-              record {
-                holder = holder-kept middle u here 148 (encMaster m) part ∙ l .holds .holder;
-                transmitter = λ k there. Put.transmitter-after-master middle u here m h k (still-fitted l k there) ∙ l .holds .transmitter k there;
-                receiver = λ k there. Put.receiver-after-master middle u here m h k (still-fitted l k there) ∙ l .holds .receiver k there;
-                master = λ k there.
-                    stored (masterOf (putMaster middle u m)) (s .master) u m (Put.master-put middle u here m h) k
-                    (λ other. Put.master-after-master middle u here m h k (still-fitted l k there) other ∙ l .holds .master k there);
-              };
-          others = others-stay here-too 148 (encMaster m) part;
-        }
+        side-stored here-too 148 (encMaster m) _ (lit≤ tt) part
+        (record {
+          holder = holder-kept middle u here 148 (encMaster m) part ∙ l .holds .holder;
+          transmitter = λ k there. Put.transmitter-after-master middle u here m h k (still-fitted l k there) ∙ l .holds .transmitter k there;
+          receiver = λ k there. Put.receiver-after-master middle u here m h k (still-fitted l k there) ∙ l .holds .receiver k there;
+          master = λ k there.
+              stored (masterOf (putMaster middle u m)) (s .master) u m (Put.master-put middle u here m h) k
+              (λ other. Put.master-after-master middle u here m h k (still-fitted l k there) other ∙ l .holds .master k there);
+        })
 
     -- ---- a side that is as it was, not stored
 

@@ -8,8 +8,10 @@ use Rattle.bus.specs.declared.slice.Given.{Given}
 use Rattle.bus.specs.declared.slice.Slot.{Slot}
 use Rattle.words.specs.Answers.{readNumber, readWord}
 use Rattle.words.specs.declared.answers.Read.{Read}
-use Rattle.pcl.specs.Face.{packed}
-use Rattle.pcl.specs.Numbers.{slotNumber, givenValue, slotValue}
+use Rattle.pcl.specs.Face.{packed, packedMove}
+use Rattle.pcl.specs.Numbers.{slotNumber, givenValue, slotValue, levelPacked, moveCallNumber}
+use Rattle.pcl.specs.declared.answers.LevelCall.{LevelCall}
+use Rattle.pcl.specs.declared.answers.MoveCall.{MoveCall}
 
 abbrev pub foundPacked : Read → ℕ
 foundPacked r = readNumber r + readWord r * 65536
@@ -23,3 +25,13 @@ slotPacked s = slotNumber s + slotValue s * 65536
 pub packed-as : {A : Type 0} (number : A → ℕ) {n : ℕ} {answer : A} {after : List ℕ} {outcome : A × List ℕ} → n ≡ number answer
     → _≡_ {A = A × List ℕ} (answer, after) outcome → _≡_ {A = ℕ × List ℕ} (n, after) (packed number outcome)
 packed-as number {after = after} e f = ap (λ (k : ℕ). (k, after)) e ∙ ap (packed number) f
+
+pub packed-move : (n : ℕ) (answer : MoveCall) (cells memory : List ℕ) (outcome : MoveCall × List ℕ × List ℕ) → n ≡ moveCallNumber answer
+    → _≡_ {A = MoveCall × List ℕ × List ℕ} (answer, cells, memory) outcome → _≡_ {A = ℕ × List ℕ × List ℕ} (n, cells, memory) (packedMove outcome)
+packed-move n answer cells memory outcome e f = rw e (ap packedMove f)
+
+pub packed-level : {n : ℕ} {answer outcome : LevelCall} → n ≡ levelPacked answer → answer ≡ outcome → n ≡ levelPacked outcome
+packed-level e f = e ∙ ap levelPacked f
+
+-- what `search faces` cites
+pub ruleset faces = (tt, packed-as, packed-move, packed-level)

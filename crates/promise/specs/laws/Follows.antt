@@ -15,7 +15,7 @@ use Rattle.delivery.specs.Ends.{Ends}
 use Rattle.promise.specs.Kinds.{Kind, own, other, quiet}
 use Rattle.delivery.specs.laws.Invariant.{Delivering}
 use Rattle.delivery.specs.laws.Slices.{State}
-use Rattle.frames.specs.laws.Leaves.{Leaves}
+use Rattle.frames.specs.laws.Leaves.{Leaves, stays, still-fitted}
 use Rattle.frames.specs.laws.Serving.{unit-for-kept}
 use Rattle.frames.specs.laws.Sides.{Sides}
 use Rattle.frames.specs.laws.Kept.{Kept, holder-most, kept-all, kept-then}
@@ -46,6 +46,12 @@ module _ (p : Parties) (start : World) (o : Opens p start) (q : State) (w : Worl
 
   pub receiver-fitted : p .receiver < countIn (w .cells)
   receiver-fitted = subst⁻¹ (λ (n : ℕ). p .receiver < n) (s .kept .count) (o .receiverFitted)
+
+  pub sender-near : p .sender < 16
+  sender-near = still-fitted (stays (s .ranged)) (p .sender) sender-fitted .number
+
+  pub receiver-near : p .receiver < 16
+  receiver-near = still-fitted (stays (s .ranged)) (p .receiver) receiver-fitted .number
 
   pub master-fitted : p .master < countIn (w .cells)
   master-fitted = omega (arith, holder-most (w .cells) (s .ranged), s .mastered)

@@ -4,7 +4,6 @@ use mathlib.Core.Bool.{Bool}
 use mathlib.Core.List.{List}
 use mathlib.Core.Path.{_≡_, refl, ap, subst, subst⁻¹, sym, _∙_}
 use Prim.Native.Nat.{ℕ, _<_}
-use Rattle.frames.specs.laws.Leaves.{stays, still-fitted}
 use Rattle.bus.specs.Slice.{slicePassed}
 use Rattle.cells.specs.Fitted.{transmitterOf, receiverOf}
 use Rattle.cells.specs.Layout.{countIn, transmitterAddress}
@@ -19,7 +18,7 @@ use Rattle.frames.specs.laws.Sides.{Sides, replaced-same}
 use Rattle.frames.specs.laws.Slices.{nextAddress, nextOn, slice-passes}
 use Rattle.slices.specs.Slice.{exchanged}
 use Rattle.promise.specs.laws.SliceCalls.{ring-first, ring-turns}
-use Rattle.promise.specs.laws.Follows.{Follows, Spares, receiver-fitted, sender-found, sender-fitted, spared}
+use Rattle.promise.specs.laws.Follows.{Follows, Spares, receiver-fitted, sender-found, sender-fitted, sender-near, spared}
 use Rattle.promise.specs.Opening.{Parties, endsOf, messageIn}
 use Rattle.promise.specs.laws.Opens.{Opens}
 use Rattle.promise.specs.laws.Standing.{Standing}
@@ -38,15 +37,12 @@ module _ (p : Parties) (start : World) (o : Opens p start) (q : State) (w : Worl
   abbrev after : List ℕ
   after = slicePassed (w .cells) mask parity .1
 
-  sender-near : p .sender < 16
-  sender-near = still-fitted (stays (s .ranged)) (p .sender) (sender-fitted p start o q w s) .number
-
   module _ (theirs : address ≡ m .from → ⊥) where
     -- T is not the transmitter addressed: no unit has two addresses
     not-sender : p .sender ≡ unitFor (w .cells) address → ⊥
     not-sender e =
-        let has = Search.found (transmitterAddress (w .cells)) (m .from) (countIn (w .cells)) 0 (subst⁻¹ (λ (u : ℕ). u < 16) (sender-found p start o q w s) sender-near) in
-        let gets = Search.found (transmitterAddress (w .cells)) address (countIn (w .cells)) 0 (subst (λ (u : ℕ). u < 16) e sender-near) in
+        let has = Search.found (transmitterAddress (w .cells)) (m .from) (countIn (w .cells)) 0 (subst⁻¹ (λ (u : ℕ). u < 16) (sender-found p start o q w s) (sender-near p start o q w s)) in
+        let gets = Search.found (transmitterAddress (w .cells)) address (countIn (w .cells)) 0 (subst (λ (u : ℕ). u < 16) e (sender-near p start o q w s)) in
         theirs (sym gets ∙ ap (transmitterAddress (w .cells)) (sym e ∙ sym (sender-found p start o q w s)) ∙ has)
 
     spares : Spares p (w .cells) after

@@ -62,17 +62,17 @@ module _ (p : Parties) (start : World) (o : Opens p start) (q : State) (w : Worl
       let openedThere = c .inStep .listening .opened in
       record {
         status =
-            sender-status w (s .ranged) (p .sender) there (c .noSuccess) (rw opened (or-true (t .commands .sendWord))) (d .sending .noReject) (d .sending .noError);
+            sender-status w (s .ranged) (p .sender) there (c .lasting .noSuccess) (rw opened (or-true (t .commands .sendWord))) (d .sending .noReject) (d .sending .noError);
         statusThere =
-            receiver-status w (s .ranged) (p .receiver) far (c .noSuccessThere) (rw openedThere (or-true (r .commands .receiveWord))) (d .receiving .noReject) (d .receiving .noError);
+            receiver-status w (s .ranged) (p .receiver) far (c .lasting .noSuccessThere) (rw openedThere (or-true (r .commands .receiveWord))) (d .receiving .noReject) (d .receiving .noError);
         opened = sender-channel w (s .ranged) (p .sender) there opened;
         openedThere = receiver-channel w (s .ranged) (p .receiver) far openedThere;
         level =
             level-is w (s .ranged) (p .sender) there 0 false
-            (ap LevelCall.Level (quiet-sender t (d .sending .noError) (c .noSuccess) (d .sending .noReject) (c .notRefused)));
+            (ap LevelCall.Level (quiet-sender t (d .sending .noError) (c .lasting .noSuccess) (d .sending .noReject) (c .lasting .notRefused)));
         levelThere =
             level-is w (s .ranged) (p .receiver) far 1 false
-            (ap LevelCall.Level (quiet-receiver r (d .receiving .noError) (c .noSuccessThere) (d .receiving .noReject) (d .receiving .requests)));
+            (ap LevelCall.Level (quiet-receiver r (d .receiving .noError) (c .lasting .noSuccessThere) (d .receiving .noReject) (d .receiving .requests)));
       }
 
 -- while it is not done, the channel is open

@@ -7,7 +7,6 @@ use Prim.Native.Nat.{ℕ, _<_}
 use borrow.Author.Tests.{eqb-true, eqb-false}
 use lib.Dec.{eqb, ltb}
 use lib.ListN.{length}
-use Rattle.frames.specs.laws.Leaves.{stays, still-fitted}
 use Rattle.bus.specs.Slice.{slicePassed}
 use Rattle.cells.specs.Fitted.{transmitterOf, receiverOf}
 use Rattle.cells.specs.Layout.{countIn}
@@ -31,7 +30,7 @@ use Rattle.slices.specs.declared.Pair.{Pair}
 use Rattle.promise.specs.Conditions.{Allowed, OwnSlice}
 use Rattle.promise.specs.laws.Exchanges.{exchange-stands}
 use Rattle.promise.specs.laws.SliceCalls.{ring-first, ring-turns, slice-call, slice-kind}
-use Rattle.promise.specs.laws.Follows.{Follows, nothing-done, receiver-found, receiver-fitted, sender-found, sender-fitted, undisturbed}
+use Rattle.promise.specs.laws.Follows.{Follows, nothing-done, receiver-found, receiver-fitted, receiver-near, sender-found, sender-fitted, sender-near, undisturbed}
 use Rattle.promise.specs.laws.MoveAnswers.{moved-until-4}
 use Rattle.promise.specs.Opening.{Parties, endsOf, messageIn}
 use Rattle.promise.specs.laws.Opens.{Opens}
@@ -52,20 +51,14 @@ module _ (p : Parties) (start : World) (o : Opens p start) (q : State) (w : Worl
   abbrev after : List ℕ
   after = slicePassed (w .cells) mask parity .1
 
-  sender-near : p .sender < 16
-  sender-near = still-fitted (stays (s .ranged)) (p .sender) (sender-fitted p start o q w s) .number
-
-  receiver-near : p .receiver < 16
-  receiver-near = still-fitted (stays (s .ranged)) (p .receiver) (receiver-fitted p start o q w s) .number
-
   -- ---- T's own
 
   module _ (mine : address ≡ m .from) where
     heard : SlicePasses (w .cells) mask parity (p .master) (heardOn (nextOn (w .cells) (p .master)) (p .sender) (p .receiver) address mask parity)
     heard =
         slice-heard (w .cells) (s .ranged) mask parity (p .master) (s .mastered) (p .sender)
-        (ap (unitFor (w .cells)) mine ∙ sender-found p start o q w s) sender-near (p .receiver)
-        (ap (Search.firstReceiver (w .cells) (countIn (w .cells))) (addressed m q x (s .delivering)) ∙ receiver-found p start o q w s) receiver-near
+        (ap (unitFor (w .cells)) mine ∙ sender-found p start o q w s) (sender-near p start o q w s) (p .receiver)
+        (ap (Search.firstReceiver (w .cells) (countIn (w .cells))) (addressed m q x (s .delivering)) ∙ receiver-found p start o q w s) (receiver-near p start o q w s)
 
     own-follows : mask ≡ 0 → parity ≡ false → MovedUntil4 m x → Follows p start q w own (withCells w after)
     own-follows none even until =

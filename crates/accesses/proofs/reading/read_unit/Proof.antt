@@ -1,4 +1,5 @@
 -- At each return the tests that led there say which case of the rule holds.
+use borrow.Author.Needs.{needs}
 use borrow.Author.Tests.{eq-eqb, le-ltb, lt-ltb, ne-eqb}
 use Rattle.laws.specs.Pick.{past, here}
 use Rattle.accesses.proofs.reading.read_unit.Statement.{statement}
@@ -14,15 +15,4 @@ returns-3 : tie.Need-returns-3
 returns-3 c = past _ (ne-eqb _ _ (c .before .before .before .before .before .if1 .left)) (past _ (le-ltb _ _ (c .before .before .before .before .if2 .left)) (c .before .before .read-receiver .ensures))
 
 pub read-unit-spec : {M : Type 1} → statement M
-read-unit-spec =
-    tie.close
-    (tie.spec
-    (λ c κs. c .before .before .before .pre)
-    (λ c. c .before .before .read-section .kept .0)
-    returns
-    (λ c κs. c .before .before .before .before .pre)
-    (λ c. c .before .before .read-transmitter .kept .0)
-    returns-2
-    (λ c κs. c .before .before .before .before .pre)
-    (λ c. c .before .before .read-receiver .kept .0)
-    returns-3)
+read-unit-spec = tie.close (tie.spec (λ c. search needs) (λ c. search needs) returns (λ c. search needs) (λ c. search needs) returns-2 (λ c. search needs) (λ c. search needs) returns-3)

@@ -1,8 +1,7 @@
 -- The section out of its window, the transmitter's two bits, the rule, and the section put back where an address is removed.
 use borrow.Author.Needs.{needs}
-use mathlib.Core.Bool.{Bool}
-use mathlib.Core.Path.{_≡_, ap, _∙_}
-use Rattle.cells.specs.Fitted.{masterOf, transmitterOf}
+use mathlib.Core.Path.{_≡_, ap}
+use Rattle.cells.specs.Fitted.{masterOf}
 use Rattle.cells.specs.Layout.{holderIn}
 use Rattle.cells.specs.laws.FittedLaws.{master-within}
 use Rattle.laws.specs.Pick.{past, here}
@@ -14,6 +13,7 @@ use Rattle.master.specs.declared.side.Mastership.{Mastership}
 use Rattle.words.specs.declared.answers.Read.{Read}
 use Rattle.accesses.specs.Masters.{mastershipOf}
 use Rattle.accesses.specs.Reading.{afterMaster, sectionRead}
+use Rattle.accesses.specs.laws.PutBack.{as-defined}
 use Rattle.accesses.proofs.sections.read_section.Statement.{statement}
 use Rattle.accesses.proofs.sections.read_section.Tie as tie
 
@@ -28,17 +28,11 @@ put-master-requires c κs =
 gave : (c : tie.After-read) → let a = c .before .before .before .before .before .before .before .before .before .before .args in c .read .result ≡ sectionRead (a .cells .now) (a .unit)
 gave c =
     let silo = c .before .before .before in
-    let opened = silo .before .before in
-    let seen = opened .before .before in
+    let seen = silo .before .before .before .before in
     let a = seen .before .before .before .args in
-    let s = a .cells .now in
-    let m = masterOf s (a .unit) in
-    let x = mastershipOf (holderIn s) (a .unit) in
-    c .read .ensures
-    ∙ ap (λ (m : Master). readOf m (seen .see-master .result) (opened .is-open .result) (silo .reads-silo .result)) (c .before .master-of .ensures)
-    ∙ ap (λ (x : Mastership). readOf m x (opened .is-open .result) (silo .reads-silo .result)) (seen .see-master .ensures)
-    ∙ ap (λ (o : Bool). readOf m x o (silo .reads-silo .result)) (opened .is-open .ensures)
-    ∙ ap (readOf m x (transmitterOf s (a .unit) .end .opened)) (silo .reads-silo .ensures)
+    as-defined (readOf (masterOf (a .cells .now) (a .unit)) (mastershipOf (holderIn (a .cells .now)) (a .unit)))
+    (as-defined (λ (m : Master) (x : Mastership). readOf m x (silo .before .before .is-open .result) (silo .reads-silo .result)) (c .read .ensures) (c .before .master-of .ensures) (seen .see-master .ensures))
+    (silo .before .before .is-open .ensures) (silo .reads-silo .ensures)
 
 returns : tie.Need-returns
 returns c =
@@ -59,16 +53,4 @@ returns-2 c =
 
 pub read-section-spec : {M : Type 1} → statement M
 read-section-spec =
-    tie.close
-    (tie.spec
-    (λ c. search needs)
-    (λ c. search needs)
-    (λ c. search needs)
-    (λ c. search needs)
-    (λ c. search needs)
-    (λ c. search needs)
-    put-master-requires
-    (λ c. search needs)
-    returns
-    (λ c. search needs)
-    returns-2)
+    tie.close (tie.spec (λ c. search needs) (λ c. search needs) (λ c. search needs) (λ c. search needs) (λ c. search needs) (λ c. search needs) put-master-requires (λ c. search needs) returns (λ c. search needs) returns-2)

@@ -11,6 +11,7 @@ use Rattle.master.specs.declared.side.Master.{Master}
 use Rattle.master.specs.declared.side.Mastership.{Mastership}
 use Rattle.accesses.specs.Masters.{mastershipOf}
 use Rattle.accesses.specs.Writing.{afterMaster}
+use Rattle.accesses.specs.laws.PutBack.{as-defined}
 use Rattle.accesses.proofs.sections.write_section.Statement.{statement}
 use Rattle.accesses.proofs.sections.write_section.Tie as tie
 
@@ -27,19 +28,12 @@ store-section-requires c κs =
 
 returns : tie.Need-returns
 returns c =
-    let stored = c .before .before in
-    let ruled = stored .before .before in
-    let loaded = ruled .before in
-    let silo = loaded .before .before in
-    let seen = silo .before .before in
-    let a = seen .before .before .before .args in
-    let s = a .cells .now in
-    stored .store-section .ensures
-    ∙ ap (afterMaster s (a .unit))
-    (ruled .write-word .ensures
-    ∙ ap (λ (m : Master). wordWritten m (seen .see-master .result) (silo .reads-silo .result) (a .word)) (loaded .master-of .ensures)
-    ∙ ap (λ (x : Mastership). wordWritten (masterOf s (a .unit)) x (silo .reads-silo .result) (a .word)) (seen .see-master .ensures)
-    ∙ ap (λ (x : Bool). wordWritten (masterOf s (a .unit)) (mastershipOf (holderIn s) (a .unit)) x (a .word)) (silo .reads-silo .ensures))
+    let ruled = c .before .before .before .before in
+    let a = ruled .before .before .before .before .before .before .before .before .args in
+    c .before .before .store-section .ensures
+    ∙ ap (afterMaster (a .cells .now) (a .unit))
+    (as-defined (λ (m : Master) (x : Mastership). wordWritten m x (ruled .before .before .before .reads-silo .result) (a .word)) (ruled .write-word .ensures) (ruled .before .master-of .ensures) (ruled .before .before .before .before .before .see-master .ensures)
+    ∙ ap (λ (s : Bool). wordWritten (masterOf (a .cells .now) (a .unit)) (mastershipOf (holderIn (a .cells .now)) (a .unit)) s (a .word)) (ruled .before .before .before .reads-silo .ensures))
 
 pub write-section-spec : {M : Type 1} → statement M
 write-section-spec = tie.close (tie.spec (λ c. search needs) (λ c. search needs) (λ c. search needs) write-word-requires store-section-requires (λ c. search needs) returns)

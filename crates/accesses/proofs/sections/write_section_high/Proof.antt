@@ -1,13 +1,13 @@
 -- The section out of its window, the rule, and the section put back.
 use borrow.Author.Needs.{needs}
 use mathlib.Core.Path.{ap, _∙_}
-use Rattle.cells.specs.Fitted.{masterOf}
 use Rattle.cells.specs.laws.FittedLaws.{master-within}
 use Rattle.master.specs.laws.Laws.{within-high}
 use Rattle.master.specs.Writing.{highByteWritten}
 use Rattle.master.specs.declared.side.Master.{Master}
 use Rattle.master.specs.declared.side.Mastership.{Mastership}
 use Rattle.accesses.specs.Writing.{afterMaster}
+use Rattle.accesses.specs.laws.PutBack.{as-defined}
 use Rattle.accesses.proofs.sections.write_section_high.Statement.{statement}
 use Rattle.accesses.proofs.sections.write_section_high.Tie as tie
 
@@ -23,17 +23,11 @@ store-section-requires c κs =
 
 returns : tie.Need-returns
 returns c =
-    let stored = c .before .before in
-    let ruled = stored .before .before in
-    let loaded = ruled .before in
-    let seen = loaded .before .before in
-    let a = seen .before .before .before .args in
-    let s = a .cells .now in
-    stored .store-section .ensures
-    ∙ ap (afterMaster s (a .unit))
-    (ruled .write-high .ensures
-    ∙ ap (λ (m : Master). highByteWritten m (seen .see-master .result) (a .byte)) (loaded .master-of .ensures)
-    ∙ ap (λ (x : Mastership). highByteWritten (masterOf s (a .unit)) x (a .byte)) (seen .see-master .ensures))
+    let ruled = c .before .before .before .before in
+    let a = ruled .before .before .before .before .before .before .args in
+    c .before .before .store-section .ensures
+    ∙ ap (afterMaster (a .cells .now) (a .unit))
+    (as-defined (λ (m : Master) (x : Mastership). highByteWritten m x (a .byte)) (ruled .write-high .ensures) (ruled .before .master-of .ensures) (ruled .before .before .before .see-master .ensures))
 
 pub write-section-high-spec : {M : Type 1} → statement M
 write-section-high-spec = tie.close (tie.spec (λ c. search needs) (λ c. search needs) write-high-requires store-section-requires (λ c. search needs) returns)

@@ -13,6 +13,7 @@ use Rattle.master.specs.declared.side.Master.{Master}
 use Rattle.master.specs.declared.side.Mastership.{Mastership}
 use Rattle.accesses.specs.Masters.{mastershipOf}
 use Rattle.accesses.specs.Writing.{afterMaster}
+use Rattle.accesses.specs.laws.PutBack.{as-defined}
 use Rattle.accesses.proofs.sections.write_section_low.Statement.{statement}
 use Rattle.accesses.proofs.sections.write_section_low.Tie as tie
 
@@ -46,22 +47,9 @@ returns-2 c =
     (rw (asked .takes-address .ensures, found .master-of .ensures, silo .reads-silo .ensures) at (seen .before .before .if1 .left)))
     (stored .store-section .ensures
     ∙ ap (afterMaster s (a .unit))
-    (ruled .write-low .ensures
-    ∙ ap (λ (m : Master). lowByteWritten m (seen .see-master .result) (silo .reads-silo .result) (a .byte)) (found .master-of .ensures)
-    ∙ ap (λ (x : Mastership). lowByteWritten (masterOf s (a .unit)) x (silo .reads-silo .result) (a .byte)) (seen .see-master .ensures)
+    (as-defined (λ (m : Master) (x : Mastership). lowByteWritten m x (silo .reads-silo .result) (a .byte)) (ruled .write-low .ensures) (found .master-of .ensures) (seen .see-master .ensures)
     ∙ ap (λ (x : Bool). lowByteWritten (masterOf s (a .unit)) (mastershipOf (holderIn s) (a .unit)) x (a .byte)) (silo .reads-silo .ensures)))
 
 pub write-section-low-spec : {M : Type 1} → statement M
 write-section-low-spec =
-    tie.close
-    (tie.spec
-    (λ c. search needs)
-    (λ c. search needs)
-    (λ c. search needs)
-    (λ c. search needs)
-    returns
-    (λ c. search needs)
-    (λ c. search needs)
-    store-section-requires
-    (λ c. search needs)
-    returns-2)
+    tie.close (tie.spec (λ c. search needs) (λ c. search needs) (λ c. search needs) (λ c. search needs) returns (λ c. search needs) (λ c. search needs) store-section-requires (λ c. search needs) returns-2)

@@ -1,38 +1,22 @@
 -- The side out of its window, the rule, and the side put back where the rule changes it.
 use borrow.Author.Needs.{needs}
-use mathlib.Core.Path.{ap}
+use mathlib.Core.Path.{refl}
 use Rattle.cells.specs.laws.FittedLaws.{transmitter-within}
-use Rattle.laws.specs.Pick.{past, here}
+use Rattle.transmitter.specs.declared.side.Transmitter.{Transmitter}
+use Rattle.transmitter_registers.specs.Writing.{changes, written}
 use Rattle.transmitter_registers.specs.declared.registers.Written.{Written}
 use Rattle.transmitter_registers.specs.laws.Keeps.{within-written}
 use Rattle.accesses.specs.Writing.{afterTransmitter}
+use Rattle.accesses.specs.laws.PutBack.{put-back, left-alone}
 use Rattle.accesses.proofs.writing.write_transmitter.Statement.{statement}
 use Rattle.accesses.proofs.writing.write_transmitter.Tie as tie
 
-write-requires : tie.Need-write-requires
-write-requires c κs = rw (c .transmitter-of .ensures) (transmitter-within _ _ (c .before .before .before .pre))
-
-put-transmitter-requires : tie.Need-put-transmitter-requires
-put-transmitter-requires c κs =
-    let ruled = c .before .before .before in
-    let start = ruled .before .before .before .before in
-    (start .pre, rw (ruled .write .ensures, ruled .before .transmitter-of .ensures) (within-written _ (transmitter-within _ _ (start .pre)) (start .args .offset) (start .args .word) (start .fits .word .fits)))
-
-returns : tie.Need-returns
-returns c =
-    let asked = c .before .before .before .before .before in
-    let ruled = asked .before in
-    let is = ruled .before .transmitter-of .ensures in
-    let a = ruled .before .before .before .before .args in
-    here _ (rw (asked .changes .ensures) at (c .before .before .before .before .if1 .taken))
-    (rw (c .before .before .put-transmitter .ensures) (ap (afterTransmitter (a .cells .now) (a .unit)) (rw is at (ruled .write .ensures))))
-
-returns-2 : tie.Need-returns-2
-returns-2 c =
-    let ruled = c .before .before in
-    let is = ruled .before .transmitter-of .ensures in
-    let s = ruled .before .before .before .before .args .cells .now in
-    past _ (rw (c .before .changes .ensures) at (c .if1 .left)) (ap (λ (x : Written). (x .answer, s)) (rw is at (ruled .write .ensures)))
-
 pub write-transmitter-spec : {M : Type 1} → statement M
-write-transmitter-spec = tie.close (tie.spec (λ c. search needs) write-requires (λ c. search needs) put-transmitter-requires (λ c. search needs) returns (λ c. search needs) returns-2)
+write-transmitter-spec =
+    tie.close (tie.spec (λ c. search needs) (λ c κs. rw (c .transmitter-of .ensures) (transmitter-within _ _ (c .before .before .before .pre))) (λ c. search needs)
+    (λ c κs. let start = c .before .before .before .before .before .before .before in
+    (start .pre, rw (c .before .before .before .write .ensures, c .before .before .before .before .transmitter-of .ensures) (within-written _ (transmitter-within _ _ (start .pre)) (start .args .offset) (start .args .word) (start .fits .word .fits)))) (λ c. search needs)
+    (λ c. let asked = c .before .before .before .before .before in let a = asked .before .before .before .before .before .args in put-back (λ (t : Transmitter). changes (a .offset)) (λ (t : Transmitter). written t (a .offset) (a .word)) (afterTransmitter (a .cells .now) (a .unit)) _
+    (asked .before .before .transmitter-of .ensures) (asked .before .write .ensures) (asked .changes .ensures) (c .before .before .before .before .if1 .taken) (rw (c .before .before .put-transmitter .ensures) refl)) (λ c. search needs)
+    (λ c. let asked = c .before in let a = asked .before .before .before .before .before .args in left-alone (λ (t : Transmitter). changes (a .offset)) (λ (t : Transmitter). written t (a .offset) (a .word)) (λ (x : Written). (x .answer, a .cells .now)) _
+    (asked .before .before .transmitter-of .ensures) (asked .before .write .ensures) (asked .changes .ensures) (c .if1 .left) refl))

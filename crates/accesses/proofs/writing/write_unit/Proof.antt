@@ -1,4 +1,5 @@
 -- At each return the tests that led there say which case of the rule holds.
+use borrow.Author.Needs.{needs}
 use borrow.Author.Tests.{eq-eqb, le-ltb, lt-ltb, ne-eqb}
 use Rattle.laws.specs.Pick.{past, here}
 use Rattle.accesses.proofs.writing.write_unit.Statement.{statement}
@@ -17,19 +18,4 @@ returns-4 : tie.Need-returns-4
 returns-4 c = past _ (rw (c .before .before .before .before .before .before .before .asks-init .ensures) at (c .before .before .before .before .before .before .if1 .left)) (past _ (ne-eqb _ _ (c .before .before .before .before .before .if2 .left)) (past _ (le-ltb _ _ (c .before .before .before .before .if3 .left)) (c .before .before .write-receiver .ensures)))
 
 pub write-unit-spec : {M : Type 1} → statement M
-write-unit-spec =
-    tie.close
-    (tie.spec
-    (λ c κs. tt)
-    (λ c κs. c .before .before .before .before .pre)
-    (λ c. c .before .before .reset-transmitter .kept .0)
-    returns
-    (λ c κs. c .before .before .before .before .before .pre)
-    (λ c. c .before .before .write-section .kept .0)
-    returns-2
-    (λ c κs. c .before .before .before .before .before .before .pre)
-    (λ c. c .before .before .write-transmitter .kept .0)
-    returns-3
-    (λ c κs. c .before .before .before .before .before .before .pre)
-    (λ c. c .before .before .write-receiver .kept .0)
-    returns-4)
+write-unit-spec = tie.close (tie.spec (λ c. search needs) (λ c. search needs) (λ c. search needs) returns (λ c. search needs) (λ c. search needs) returns-2 (λ c. search needs) (λ c. search needs) returns-3 (λ c. search needs) (λ c. search needs) returns-4)

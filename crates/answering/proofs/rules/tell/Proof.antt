@@ -3,53 +3,22 @@ use borrow.Author.Needs.{needs}
 use Rattle.answering.proofs.rules.tell.Statement.{statement}
 use Rattle.answering.proofs.rules.tell.Tie as tie
 
-returns : tie.Need-returns
-returns c = rw (c .before .enum-told .given .1) (simp (c .give .ensures))
-
-returns-2 : tie.Need-returns-2
-returns-2 c = rw (c .before .enum-told2 .given .1) (simp (c .give2 .ensures))
-
-returns-3 : tie.Need-returns-3
-returns-3 c = rw (c .before .enum-told3 .given .1) (simp (c .give3 .ensures))
-
-returns-4 : tie.Need-returns-4
-returns-4 c = rw (c .before .enum-told4 .given .1) (simp (c .give4 .ensures))
-
-returns-5 : tie.Need-returns-5
-returns-5 c = rw (c .before .enum-told5 .given .1) (simp (c .give5 .ensures))
-
-returns-6 : tie.Need-returns-6
-returns-6 c = rw (c .before .enum-told6 .given .1) (simp (c .give6 .ensures))
-
-returns-7 : tie.Need-returns-7
-returns-7 c = rw (c .enum-told7 .given .1)
-
-returns-8 : tie.Need-returns-8
-returns-8 c = rw (c .enum-told8 .given .1)
-
-returns-9 : tie.Need-returns-9
-returns-9 c = rw (c .before .enum-told9 .given .1) (simp (c .give7 .ensures))
-
-returns-10 : tie.Need-returns-10
-returns-10 c = rw (c .before .enum-told10 .given .1) (simp (c .give8 .ensures))
-
-returns-11 : tie.Need-returns-11
-returns-11 c = rw (c .enum-told11 .given .1)
-
-returns-12 : tie.Need-returns-12
-returns-12 c = rw (c .before .enum-told12 .given .1) (simp (c .give9 .ensures))
-
-returns-13 : tie.Need-returns-13
-returns-13 c = rw (c .enum-told13 .given .1)
-
-returns-14 : tie.Need-returns-14
-returns-14 c = rw (c .before .enum-told14 .given .1) (simp (c .give10 .ensures))
-
-returns-15 : tie.Need-returns-15
-returns-15 c = rw (c .before .enum-told15 .given .1) (simp (c .give11 .ensures))
-
-returns-16 : tie.Need-returns-16
-returns-16 c = rw (c .before .enum-told16 .given .1) (simp (c .give12 .ensures))
-
 pub tell-spec : {M : Type 1} → statement M
-tell-spec = tie.close (tie.spec (λ c. search needs) (λ c. search needs) (λ c. search needs) (λ c. search needs) (λ c. search needs) (λ c. search needs) (λ c. search needs) (λ c. search needs) (λ c. search needs) (λ c. search needs) (λ c. search needs) (λ c. search needs) (λ c. search needs) (λ c. search needs) (λ c. search needs) (λ c. search needs) (λ c. search needs) (λ c. search needs) (λ c. search needs) (λ c. search needs) (λ c. search needs) (λ c. search needs) (λ c. search needs) (λ c. search needs) (λ c. search needs) (λ c. search needs) (λ c. search needs) (λ c. search needs) returns returns-2 returns-3 returns-4 returns-5 returns-6 returns-7 returns-8 returns-9 returns-10 returns-11 returns-12 returns-13 returns-14 returns-15 returns-16)
+tell-spec =
+    tie.close (tie.spec (λ c. search needs) (λ c. search needs) (λ c. search needs) (λ c. search needs) (λ c. search needs) (λ c. search needs) (λ c. search needs) (λ c. search needs) (λ c. search needs) (λ c. search needs) (λ c. search needs) (λ c. search needs) (λ c. search needs) (λ c. search needs) (λ c. search needs) (λ c. search needs) (λ c. search needs) (λ c. search needs) (λ c. search needs) (λ c. search needs) (λ c. search needs) (λ c. search needs) (λ c. search needs) (λ c. search needs) (λ c. search needs) (λ c. search needs) (λ c. search needs) (λ c. search needs)
+    (λ c. rw (c .before .enum-told .given .1) (simp (c .give .ensures)))
+    (λ c. rw (c .before .enum-told2 .given .1) (simp (c .give2 .ensures)))
+    (λ c. rw (c .before .enum-told3 .given .1) (simp (c .give3 .ensures)))
+    (λ c. rw (c .before .enum-told4 .given .1) (simp (c .give4 .ensures)))
+    (λ c. rw (c .before .enum-told5 .given .1) (simp (c .give5 .ensures)))
+    (λ c. rw (c .before .enum-told6 .given .1) (simp (c .give6 .ensures)))
+    (λ c. rw (c .enum-told7 .given .1))
+    (λ c. rw (c .enum-told8 .given .1))
+    (λ c. rw (c .before .enum-told9 .given .1) (simp (c .give7 .ensures)))
+    (λ c. rw (c .before .enum-told10 .given .1) (simp (c .give8 .ensures)))
+    (λ c. rw (c .enum-told11 .given .1))
+    (λ c. rw (c .before .enum-told12 .given .1) (simp (c .give9 .ensures)))
+    (λ c. rw (c .enum-told13 .given .1))
+    (λ c. rw (c .before .enum-told14 .given .1) (simp (c .give10 .ensures)))
+    (λ c. rw (c .before .enum-told15 .given .1) (simp (c .give11 .ensures)))
+    (λ c. rw (c .before .enum-told16 .given .1) (simp (c .give12 .ensures))))

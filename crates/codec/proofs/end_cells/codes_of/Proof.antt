@@ -3,8 +3,5 @@ use borrow.Author.Needs.{needs}
 use Rattle.codec.proofs.end_cells.codes_of.Statement.{statement}
 use Rattle.codec.proofs.end_cells.codes_of.Tie as tie
 
-returns : tie.Need-returns
-returns c = simp (c .bits-at2 .ensures, c .before .bits-at .ensures)
-
 pub codes-of-spec : {M : Type 1} → statement M
-codes-of-spec = tie.close (tie.spec (λ c. search needs) (λ c. search needs) returns)
+codes-of-spec = tie.close (tie.spec (λ c. search needs) (λ c. search needs) (λ c. cc))

@@ -3,16 +3,5 @@ use borrow.Author.Needs.{needs}
 use Rattle.codec.proofs.end_cells.end_in.Statement.{statement}
 use Rattle.codec.proofs.end_cells.end_in.Tie as tie
 
-returns : tie.Need-returns
-returns c =
-    let codes = c .before .before in
-    simp (
-      c .read-word .ensures,
-      c .before .read-most .ensures,
-      codes .codes-of .ensures,
-      codes .before .load-of .ensures,
-      codes .before .before .silo-in .ensures,
-    )
-
 pub end-in-spec : {M : Type 1} → statement M
-end-in-spec = tie.close (tie.spec (λ c. search needs) (λ c. search needs) (λ c. search needs) (λ c. search needs) (λ c. search needs) (λ c. search needs) (λ c. search needs) (λ c. search needs) (λ c. search needs) (λ c. search needs) (λ c. search needs) returns)
+end-in-spec = tie.close (tie.spec (λ c. search needs) (λ c. search needs) (λ c. search needs) (λ c. search needs) (λ c. search needs) (λ c. search needs) (λ c. search needs) (λ c. search needs) (λ c. search needs) (λ c. search needs) (λ c. search needs) (λ c. cc))

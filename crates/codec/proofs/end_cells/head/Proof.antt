@@ -3,8 +3,5 @@ use borrow.Author.Needs.{needs}
 use Rattle.codec.proofs.end_cells.head.Statement.{statement}
 use Rattle.codec.proofs.end_cells.head.Tie as tie
 
-returns : tie.Need-returns
-returns c = simp (c .low .ensures)
-
 pub head-spec : {M : Type 1} → statement M
-head-spec = tie.close (tie.spec (λ c. search needs) returns)
+head-spec = tie.close (tie.spec (λ c. search needs) (λ c. cc))

@@ -3,8 +3,5 @@ use borrow.Author.Needs.{needs}
 use Rattle.codec.proofs.end_cells.load_of.Statement.{statement}
 use Rattle.codec.proofs.end_cells.load_of.Tie as tie
 
-returns : tie.Need-returns
-returns c = simp (c .bits-at .ensures, c .before .bit-at .ensures)
-
 pub load-of-spec : {M : Type 1} → statement M
-load-of-spec = tie.close (tie.spec (λ c. search needs) (λ c. search needs) (λ c. search needs) (λ c. search needs) (λ c. search needs) (λ c. search needs) (λ c. search needs) (λ c. search needs) returns)
+load-of-spec = tie.close (tie.spec (λ c. search needs) (λ c. search needs) (λ c. search needs) (λ c. search needs) (λ c. search needs) (λ c. search needs) (λ c. search needs) (λ c. search needs) (λ c. cc))

@@ -3,8 +3,5 @@ use borrow.Author.Needs.{needs}
 use Rattle.codec.proofs.end_cells.silo_in.Statement.{statement}
 use Rattle.codec.proofs.end_cells.silo_in.Tie as tie
 
-returns : tie.Need-returns
-returns c = simp (c .read-most .ensures, c .before .before .take .ensures)
-
 pub silo-in-spec : {M : Type 1} → statement M
-silo-in-spec = tie.close (tie.spec (λ c. search needs) (λ c. search needs) (λ c. search needs) (λ c. search needs) (λ c. search needs) returns)
+silo-in-spec = tie.close (tie.spec (λ c. search needs) (λ c. search needs) (λ c. search needs) (λ c. search needs) (λ c. search needs) (λ c. cc))

@@ -3,8 +3,5 @@ use borrow.Author.Needs.{needs}
 use Rattle.codec.proofs.masters.addresses_in.Statement.{statement}
 use Rattle.codec.proofs.masters.addresses_in.Tie as tie
 
-returns : tie.Need-returns
-returns c = simp (c .read-most .ensures, c .before .before .take .ensures)
-
 pub addresses-in-spec : {M : Type 1} → statement M
-addresses-in-spec = tie.close (tie.spec (λ c. search needs) (λ c. search needs) (λ c. search needs) (λ c. search needs) (λ c. search needs) returns)
+addresses-in-spec = tie.close (tie.spec (λ c. search needs) (λ c. search needs) (λ c. search needs) (λ c. search needs) (λ c. search needs) (λ c. cc))

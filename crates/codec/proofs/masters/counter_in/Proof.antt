@@ -4,11 +4,5 @@ use Rattle.laws.specs.Pick.{here, past}
 use Rattle.codec.proofs.masters.counter_in.Statement.{statement}
 use Rattle.codec.proofs.masters.counter_in.Tie as tie
 
-returns : tie.Need-returns
-returns c = here _ (c .if1 .taken) refl
-
-returns-2 : tie.Need-returns-2
-returns-2 c = past _ (c .if1 .left) refl
-
 pub counter-in-spec : {M : Type 1} → statement M
-counter-in-spec = tie.close (tie.spec returns returns-2)
+counter-in-spec = tie.close (tie.spec (λ c. here _ (c .if1 .taken) refl) (λ c. past _ (c .if1 .left) refl))

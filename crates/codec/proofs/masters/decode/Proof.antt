@@ -3,8 +3,5 @@ use borrow.Author.Needs.{needs}
 use Rattle.codec.proofs.masters.decode.Statement.{statement}
 use Rattle.codec.proofs.masters.decode.Tie as tie
 
-returns : tie.Need-returns
-returns c = simp (c .section-of .ensures, c .before .addresses-in .ensures)
-
 pub decode-spec : {M : Type 1} → statement M
-decode-spec = tie.close (tie.spec (λ c. search needs) (λ c. search needs) (λ c. search needs) returns)
+decode-spec = tie.close (tie.spec (λ c. search needs) (λ c. search needs) (λ c. search needs) (λ c. simp (c .section-of .ensures) (cc)))

@@ -15,14 +15,4 @@ returns c =
     (laid 66 2 (masterHead m) (m .addresses .cells) refl (omega (arith, headed .before .pre .silo .cells64)))
 
 pub encode-spec : {M : Type 1} → statement M
-encode-spec =
-    tie.close
-    (tie.spec
-    (λ c. search needs)
-    (λ c. search needs)
-    (λ c. search needs)
-    (λ c. search needs)
-    (λ c. search needs)
-    (λ c. search needs)
-    (λ c. search needs)
-    returns)
+encode-spec = tie.close (tie.spec (λ c. search needs) (λ c. search needs) (λ c. search needs) (λ c. search needs) (λ c. search needs) (λ c. search needs) (λ c. search needs) returns)

@@ -7,8 +7,5 @@ use Rattle.codec.proofs.masters.head.Tie as tie
 section-sum-requires : tie.Need-section-sum-requires
 section-sum-requires c κs = omega (arith, section-lt (c .before .args .m) (c .before .pre))
 
-returns : tie.Need-returns
-returns c = simp (c .section-sum .ensures)
-
 pub head-spec : {M : Type 1} → statement M
-head-spec = tie.close (tie.spec section-sum-requires returns)
+head-spec = tie.close (tie.spec section-sum-requires (λ c. cc))

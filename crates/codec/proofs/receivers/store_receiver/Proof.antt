@@ -3,8 +3,5 @@ use borrow.Author.Needs.{needs}
 use Rattle.codec.proofs.receivers.store_receiver.Statement.{statement}
 use Rattle.codec.proofs.receivers.store_receiver.Tie as tie
 
-returns : tie.Need-returns
-returns c = simp (c .before .before .put .ensures, c .before .before .before .before .before .encode .ensures)
-
 pub store-receiver-spec : {M : Type 1} → statement M
-store-receiver-spec = tie.close (tie.spec (λ c. search needs) (λ c. search needs) (λ c. search needs) (λ c. search needs) returns)
+store-receiver-spec = tie.close (tie.spec (λ c. search needs) (λ c. search needs) (λ c. search needs) (λ c. search needs) (λ c. cc))

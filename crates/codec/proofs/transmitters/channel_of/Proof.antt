@@ -3,8 +3,5 @@ use borrow.Author.Needs.{needs}
 use Rattle.codec.proofs.transmitters.channel_of.Statement.{statement}
 use Rattle.codec.proofs.transmitters.channel_of.Tie as tie
 
-returns : tie.Need-returns
-returns c = simp (c .bit-at2 .ensures, c .before .bit-at .ensures)
-
 pub channel-of-spec : {M : Type 1} → statement M
-channel-of-spec = tie.close (tie.spec (λ c. search needs) (λ c. search needs) returns)
+channel-of-spec = tie.close (tie.spec (λ c. search needs) (λ c. search needs) (λ c. cc))

@@ -1,4 +1,4 @@
--- What the calls gave, put into the struct.
+-- What the calls gave, put into the struct: the end and the channel first, then the groups of bits.
 use borrow.Author.Needs.{needs}
 use Rattle.codec.proofs.transmitters.decode.Statement.{statement}
 use Rattle.codec.proofs.transmitters.decode.Tie as tie
@@ -6,17 +6,9 @@ use Rattle.codec.proofs.transmitters.decode.Tie as tie
 returns : tie.Need-returns
 returns c =
     let modes = c .before .before .before in
-    let end = modes .before in
-    simp (
-      c .channel-of .ensures,
-      c .before .outcome-in .ensures,
-      c .before .before .faults-in .ensures,
-      modes .modes-in .ensures,
-      end .end-in .ensures,
-      end .before .before .bit-at2 .ensures,
-      end .before .before .before .bit-at .ensures,
-      end .before .before .before .before .commands-in .ensures,
-    )
+    let mark = modes .before .before .before in
+    simp (c .channel-of .ensures, modes .before .end-in .ensures, mark .bit-at2 .ensures, mark .before .bit-at .ensures)
+    (simp (c .before .outcome-in .ensures, c .before .before .faults-in .ensures, modes .modes-in .ensures, mark .before .before .commands-in .ensures))
 
 pub decode-spec : {M : Type 1} → statement M
 decode-spec = tie.close (tie.spec (λ c. search needs) (λ c. search needs) (λ c. search needs) (λ c. search needs) (λ c. search needs) (λ c. search needs) (λ c. search needs) (λ c. search needs) (λ c. search needs) (λ c. search needs) (λ c. search needs) returns)

@@ -3,8 +3,5 @@ use borrow.Author.Needs.{needs}
 use Rattle.codec.proofs.transmitters.encode.Statement.{statement}
 use Rattle.codec.proofs.transmitters.encode.Tie as tie
 
-returns : tie.Need-returns
-returns c = rw (c .window-of .ensures, c .before .status-cell .ensures, c .before .before .control-cell .ensures)
-
 pub encode-spec : {M : Type 1} → statement M
-encode-spec = tie.close (tie.spec (λ c. search needs) (λ c. search needs) (λ c. search needs) returns)
+encode-spec = tie.close (tie.spec (λ c. search needs) (λ c. search needs) (λ c. search needs) (λ c. cc))

@@ -3,8 +3,5 @@ use borrow.Author.Needs.{needs}
 use Rattle.codec.proofs.transmitters.load_transmitter.Statement.{statement}
 use Rattle.codec.proofs.transmitters.load_transmitter.Tie as tie
 
-returns : tie.Need-returns
-returns c = simp (c .decode .ensures, c .before .before .take .ensures)
-
 pub load-transmitter-spec : {M : Type 1} → statement M
-load-transmitter-spec = tie.close (tie.spec (λ c. search needs) (λ c. search needs) (λ c. search needs) returns)
+load-transmitter-spec = tie.close (tie.spec (λ c. search needs) (λ c. search needs) (λ c. search needs) (λ c. simp (c .decode .ensures, c .before .before .take .ensures)))

@@ -3,8 +3,5 @@ use borrow.Author.Needs.{needs}
 use Rattle.codec.proofs.transmitters.store_transmitter.Statement.{statement}
 use Rattle.codec.proofs.transmitters.store_transmitter.Tie as tie
 
-returns : tie.Need-returns
-returns c = simp (c .before .before .put .ensures, c .before .before .before .before .before .encode .ensures)
-
 pub store-transmitter-spec : {M : Type 1} → statement M
-store-transmitter-spec = tie.close (tie.spec (λ c. search needs) (λ c. search needs) (λ c. search needs) (λ c. search needs) returns)
+store-transmitter-spec = tie.close (tie.spec (λ c. search needs) (λ c. search needs) (λ c. search needs) (λ c. search needs) (λ c. cc))

@@ -1,38 +1,8 @@
 -- What the admission leads to: a refusal, or the function on a fitted unit.
-use mathlib.Core.List.{List}
-use mathlib.Core.Path.{refl, ap, sym, _∙_}
-use Prim.Native.Nat.{ℕ}
-use Rattle.pcl.specs.declared.answers.UnitCall.{UnitCall}
-use Rattle.pcl.specs.laws.Admitted.{goes-on, at-unit}
+use borrow.Author.Needs.{needs}
+use Rattle.pcl.specs.laws.Admitted.{calls}
 use Rattle.pcl.proofs.calls.pass_period.Statement.{statement}
 use Rattle.pcl.proofs.calls.pass_period.Tie as tie
 
-pass-period-requires : tie.Need-pass-period-requires
-pass-period-requires c κs = at-unit _ _ (sym (c .before .before .before .admit .ensures) ∙ c .before .enum-told3 .given .1)
-
-returns : tie.Need-returns
-returns c = goes-on _ _ _ _ _ (sym (c .before .before .admit .ensures) ∙ c .enum-told .given .1) refl
-
-returns-2 : tie.Need-returns-2
-returns-2 c = goes-on _ _ _ _ _ (sym (c .before .before .admit .ensures) ∙ c .enum-told2 .given .1) refl
-
-returns-3 : tie.Need-returns-3
-returns-3 c =
-    goes-on _ _ _ _ _ (sym (c .before .before .before .before .before .before .admit .ensures) ∙ c .before .before .before .before .enum-told3 .given .1)
-    (ap (λ (l : List ℕ). (UnitCall.Done, l)) (c .before .before .pass-period .ensures))
-
 pub pass-period-spec : {M : Type 1} → statement M
-pass-period-spec =
-    tie.close
-    (tie.spec
-    (λ c κs. tt)
-    (λ c. c .match .keys1)
-    (λ c. c .match .keys2)
-    (λ c. c .match .keys3)
-    pass-period-requires
-    (λ c. refl)
-    returns
-    (λ c. refl)
-    returns-2
-    (λ c. c .before .cells .given)
-    returns-3)
+pass-period-spec = tie.close (tie.spec (λ c. search needs) (λ c. search needs) (λ c. search needs) (λ c. search needs) (λ c. search calls) (λ c. search needs) (λ c. search calls) (λ c. search needs) (λ c. search calls) (λ c. search needs) (λ c. search calls))

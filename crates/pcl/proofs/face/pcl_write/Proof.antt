@@ -1,11 +1,8 @@
 -- The call, and its number.
-use Rattle.pcl.specs.Numbers.{writeCallNumber}
-use Rattle.pcl.specs.laws.Packed.{packed-as}
+use borrow.Author.Needs.{needs}
+use Rattle.pcl.specs.laws.Packed.{faces}
 use Rattle.pcl.proofs.face.pcl_write.Statement.{statement}
 use Rattle.pcl.proofs.face.pcl_write.Tie as tie
 
-returns : tie.Need-returns
-returns c = packed-as writeCallNumber (c .pack-write .ensures) (c .before .before .before .write .ensures)
-
 pub pcl-write-spec : {M : Type 1} → statement M
-pcl-write-spec = tie.close (tie.spec (λ c κs. tt) (λ c κs. tt) (λ c. c .before .before .cells .given) returns)
+pcl-write-spec = tie.close (tie.spec (λ c. search needs) (λ c. search needs) (λ c. search needs) (λ c. search faces))

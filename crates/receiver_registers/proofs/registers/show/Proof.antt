@@ -6,21 +6,6 @@ use Rattle.laws.specs.Pick.{past}
 use Rattle.receiver_registers.proofs.registers.show.Statement.{statement}
 use Rattle.receiver_registers.proofs.registers.show.Tie as tie
 
-returns : tie.Need-returns
-returns c = rw (c .before .match .keys1) (simp (c .control-word .ensures))
-
-returns-2 : tie.Need-returns-2
-returns-2 c = rw (c .before .match .keys2) (simp (c .status-word .ensures))
-
-returns-3 : tie.Need-returns-3
-returns-3 c = rw (c .match .keys3)
-
-returns-4 : tie.Need-returns-4
-returns-4 c = rw (c .before .match .keys4) (simp (c .low .ensures))
-
-returns-5 : tie.Need-returns-5
-returns-5 c = rw (c .match .keys5)
-
 returns-6 : tie.Need-returns-6
 returns-6 c =
     let r = c .match .rest in
@@ -30,5 +15,10 @@ returns-6 c =
 
 pub show-spec : {M : Type 1} → statement M
 show-spec =
-    tie.close
-    (tie.spec (λ c. search needs) (λ c. search needs) (λ c. search needs) returns returns-2 returns-3 returns-4 returns-5 returns-6)
+    tie.close (tie.spec (λ c. search needs) (λ c. search needs) (λ c. search needs)
+    (λ c. rw (c .before .match .keys1) (simp (c .control-word .ensures)))
+    (λ c. rw (c .before .match .keys2) (simp (c .status-word .ensures)))
+    (λ c. rw (c .match .keys3))
+    (λ c. rw (c .before .match .keys4) (simp (c .low .ensures)))
+    (λ c. rw (c .match .keys5))
+    returns-6)

@@ -1,7 +1,7 @@
 -- Digit after digit.
 use borrow.Author.Needs.{needs}
 use Rattle.script.specs.Lines.{decimal}
-use Rattle.script.proofs.Putting.{and-then}
+use Rattle.script.proofs.Putting.{all-five}
 use Rattle.script.proofs.digits.put_number.Statement.{statement}
 use Rattle.script.proofs.digits.put_number.Tie as tie
 
@@ -13,20 +13,7 @@ returns c =
     let three = four .before .before .before .before in
     let two = three .before .before .before .before in
     let one = two .before .before .before .before in
-    and-then
-    (and-then (and-then (and-then (one .put-place .ensures) (two .put-place2 .ensures)) (three .put-place3 .ensures)) (four .put-place4 .ensures))
-    (five .put-byte .ensures)
+    all-five (one .put-place .ensures) (two .put-place2 .ensures) (three .put-place3 .ensures) (four .put-place4 .ensures) (five .put-byte .ensures)
 
 pub put-number-spec : {M : Type 1} → statement M
-put-number-spec =
-    tie.close
-    (tie.spec
-    (λ c κs. search needs)
-    (λ c κs. search needs)
-    (λ c κs. search needs)
-    (λ c κs. search needs)
-    (λ c. search needs)
-    (λ c. search needs)
-    (λ c κs. search needs)
-    (λ c. search needs)
-    returns)
+put-number-spec = tie.close (tie.spec (λ c κs. search needs) (λ c κs. search needs) (λ c κs. search needs) (λ c κs. search needs) (λ c. search needs) (λ c. search needs) (λ c κs. search needs) (λ c. search needs) returns)

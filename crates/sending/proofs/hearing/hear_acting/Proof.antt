@@ -3,26 +3,13 @@ use borrow.Author.Needs.{needs}
 use Rattle.sending.proofs.hearing.hear_acting.Statement.{statement}
 use Rattle.sending.proofs.hearing.hear_acting.Tie as tie
 
-returns : tie.Need-returns
-returns c = rw (c .enum-told .given .1)
-
-returns-2 : tie.Need-returns-2
-returns-2 c = rw (c .before .enum-told2 .given .1) (simp (c .hear-closed .ensures))
-
-returns-3 : tie.Need-returns-3
-returns-3 c = rw (c .before .enum-told3 .given .1) (simp (c .hear-open .ensures))
-
-returns-4 : tie.Need-returns-4
-returns-4 c = rw (c .before .enum-told4 .given .1) (simp (c .hear-open2 .ensures))
-
-returns-5 : tie.Need-returns-5
-returns-5 c = rw (c .before .enum-told5 .given .1) (simp (c .hear-open3 .ensures))
-
-returns-6 : tie.Need-returns-6
-returns-6 c = rw (c .before .enum-told6 .given .1) (simp (c .hear-open4 .ensures))
-
-returns-7 : tie.Need-returns-7
-returns-7 c = rw (c .before .enum-told7 .given .1) (simp (c .hear-open5 .ensures))
-
 pub hear-acting-spec : {M : Type 1} → statement M
-hear-acting-spec = tie.close (tie.spec (λ c. search needs) (λ c. search needs) (λ c. search needs) (λ c. search needs) (λ c. search needs) (λ c. search needs) (λ c. search needs) (λ c. search needs) (λ c. search needs) (λ c. search needs) (λ c. search needs) (λ c. search needs) (λ c. search needs) returns returns-2 returns-3 returns-4 returns-5 returns-6 returns-7)
+hear-acting-spec =
+    tie.close (tie.spec (λ c. search needs) (λ c. search needs) (λ c. search needs) (λ c. search needs) (λ c. search needs) (λ c. search needs) (λ c. search needs) (λ c. search needs) (λ c. search needs) (λ c. search needs) (λ c. search needs) (λ c. search needs) (λ c. search needs)
+    (λ c. rw (c .enum-told .given .1))
+    (λ c. rw (c .before .enum-told2 .given .1) (simp (c .hear-closed .ensures)))
+    (λ c. rw (c .before .enum-told3 .given .1) (simp (c .hear-open .ensures)))
+    (λ c. rw (c .before .enum-told4 .given .1) (simp (c .hear-open2 .ensures)))
+    (λ c. rw (c .before .enum-told5 .given .1) (simp (c .hear-open3 .ensures)))
+    (λ c. rw (c .before .enum-told6 .given .1) (simp (c .hear-open4 .ensures)))
+    (λ c. rw (c .before .enum-told7 .given .1) (simp (c .hear-open5 .ensures))))

@@ -6,23 +6,15 @@ use Rattle.laws.specs.Pick.{past}
 use Rattle.transmitter_registers.proofs.registers.show.Statement.{statement}
 use Rattle.transmitter_registers.proofs.registers.show.Tie as tie
 
-returns : tie.Need-returns
-returns c = rw (c .before .match .keys1) (simp (c .control-word .ensures))
-
-returns-2 : tie.Need-returns-2
-returns-2 c = rw (c .before .match .keys2) (simp (c .status-word .ensures))
-
-returns-3 : tie.Need-returns-3
-returns-3 c = rw (c .match .keys3)
-
-returns-4 : tie.Need-returns-4
-returns-4 c = rw (c .before .match .keys4) (simp (c .low .ensures))
-
-returns-5 : tie.Need-returns-5
-returns-5 c = rw (c .match .keys5)
-
 returns-6 : tie.Need-returns-6
 returns-6 c = past _ (ne-eqb _ 0 (c .match .rest .0 .0 .0 .0 .1)) (past _ (ne-eqb _ 2 (c .match .rest .0 .0 .0 .1)) (past _ (ne-eqb _ 6 (c .match .rest .0 .0 .1)) (past _ (ne-eqb _ 8 (c .match .rest .0 .1)) (past _ (ne-eqb _ 12 (c .match .rest .1)) refl))))
 
 pub show-spec : {M : Type 1} → statement M
-show-spec = tie.close (tie.spec (λ c. search needs) (λ c. search needs) (λ c. search needs) returns returns-2 returns-3 returns-4 returns-5 returns-6)
+show-spec =
+    tie.close (tie.spec (λ c. search needs) (λ c. search needs) (λ c. search needs)
+    (λ c. rw (c .before .match .keys1) (simp (c .control-word .ensures)))
+    (λ c. rw (c .before .match .keys2) (simp (c .status-word .ensures)))
+    (λ c. rw (c .match .keys3))
+    (λ c. rw (c .before .match .keys4) (simp (c .low .ensures)))
+    (λ c. rw (c .match .keys5))
+    returns-6)
