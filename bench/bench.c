@@ -1,18 +1,35 @@
 /* bench.c - slices with their memory moves: the archive beside the second library,
  * which is plain C. A load runs on both in turn, several times: the lowest time
  * of each is printed, and the median of the ratios of two runs that followed
- * each other.
+ * each other. How many slices and moves the archive does in place, by the plain
+ * way of crates/plain, is counted in one more run, which is not timed.
  *
- * bench          a table, for 2 units and for 16
- * bench curve    a line for each count of units: units, then for each load the ns a slice of the archive and of plain C */
+ * bench table SCALE    for 2 units and for 16
+ * bench curve SCALE    a line for each count of units: units, then for each load the time of a slice of the archive and of plain C,
+ *                      and the ratio
+ *
+ * SCALE is ns; or relative, where a time means something only beside another: then the table has no times, and the curve's unit is the
+ * time of plain C with 2 units at the first load. */
 #define _POSIX_C_SOURCE 199309L
 #include <stdio.h>
 #include <stdlib.h>
 #include <string.h>
 #include <time.h>
-#include "state.h"
+#include "plain.h"
 
-enum { ROUNDS = 7, SLICES = 200000, MESSAGE = 32768 };
+enum { ROUNDS = 15, SLICES = 200000, MESSAGE = 32768 };
+
+static void fail(const char *what, uint32_t number)
+{
+    fprintf(stderr, "bench: %s: %lu\n", what, (unsigned long)number);
+    exit(1);
+}
+
+static void must(uint32_t answer)
+{
+    if (answer != PCL_DONE)
+        fail("an answer that is not 0", answer);
+}
 
 static uint16_t cells[PCL_CELLS_MOST];
 static struct second_link l;
@@ -30,6 +47,32 @@ static uint32_t plain_write_byte(uint32_t u, uint32_t o, uint8_t b) { return sec
 static uint32_t plain_slice(void) { return second_slice(&l, 0, 0); }
 static uint32_t plain_move(uint32_t u, uint32_t s) { return second_move(&l, u, s, memory[u], PCL_MEMORY_MOST); }
 
+/* The archive's calls again, and how many of them go the plain way. The answer of such a call is known before. */
+static struct count { uint32_t all, plain; } slices, moves;
+
+static uint32_t count_call(struct count *count, struct way way, uint32_t answer)
+{
+    count->all++;
+    count->plain += way.plain;
+    if (way.plain && answer != way.answer)
+        fail("a plain call has another answer", answer);
+    return answer;
+}
+
+static uint32_t counted_slice(void)
+{
+    struct way way = slice_way(cells);
+
+    return count_call(&slices, way, archive_slice());
+}
+
+static uint32_t counted_move(uint32_t u, uint32_t s)
+{
+    struct way way = move_way(cells, u, s);
+
+    return count_call(&moves, way, archive_move(u, s));
+}
+
 static const struct library {
     uint32_t (*fit)(const uint32_t *setup, size_t length);
     uint32_t (*write)(uint32_t unit, uint32_t offset, uint16_t word);
@@ -37,6 +80,7 @@ static const struct library {
     uint32_t (*slice)(void);
     uint32_t (*move)(uint32_t unit, uint32_t side);
 } archive = { archive_fit, archive_write, archive_write_byte, archive_slice, archive_move },
+  counted = { archive_fit, archive_write, archive_write_byte, counted_slice, counted_move },
   plain = { plain_fit, plain_write, plain_write_byte, plain_slice, plain_move };
 
 /* What comes after each slice: moves at both ends until 4, a move at either end, or nothing on a bus where nobody sends. */
@@ -48,14 +92,6 @@ static const struct load { const char *name; enum { UNTIL_4, ONE_MOVE, IDLE } ki
 enum { LOADS = sizeof loads / sizeof loads[0] };
 
 struct result { double archive, plain, ratio; };        /* ns a slice; how many times as fast as plain C */
-
-static void must(uint32_t answer)
-{
-    if (answer == PCL_DONE)
-        return;
-    printf("bench: number %u\n", pcl_number(answer));
-    exit(1);
-}
 
 /* Unit u has transmitter u + 1 and receiver u + 1, and sends to the unit behind it. */
 static uint32_t partner(uint32_t units, uint32_t u) { return (u + 1) % units; }
@@ -123,11 +159,12 @@ static uint32_t run(const struct library *library, uint32_t units, const struct 
     return delivered;
 }
 
+/* The processor's time, which is the same whoever else uses the machine. */
 static double now(void)
 {
     struct timespec t;
 
-    clock_gettime(CLOCK_MONOTONIC, &t);
+    clock_gettime(CLOCK_PROCESS_CPUTIME_ID, &t);
     return (double)t.tv_sec * 1e9 + (double)t.tv_nsec;
 }
 
@@ -159,7 +196,7 @@ static struct result measure(uint32_t units, const struct load *load)
         plains[i] = time_of(&plain, units, load, &expected);
         ratios[i] = plains[i] / archives[i];
         if (delivered != expected)
-            must(PCL_NOTHING);
+            fail("not as many messages as with plain C", delivered);
     }
     qsort(archives, ROUNDS, sizeof archives[0], by_size);
     qsort(plains, ROUNDS, sizeof plains[0], by_size);
@@ -167,25 +204,56 @@ static struct result measure(uint32_t units, const struct load *load)
     return (struct result){ archives[0], plains[0], ratios[ROUNDS / 2] };
 }
 
-static void table(void)
+static void count(uint32_t units, const struct load *load)
 {
-    printf("%-36s %5s %12s %12s %8s\n", "load", "units", "archive, ns", "plain C, ns", "ratio");
+    slices = moves = (struct count){ 0, 0 };
+    set_up(&counted, units, load);
+    run(&counted, units, load);
+}
+
+/* Per cent, rounded down: 100 is all of them. */
+static void print_share(const struct count *count)
+{
+    if (count->all)
+        printf(" %10.2f", (double)((uint64_t)count->plain * 10000 / count->all) / 100);
+    else
+        printf(" %10s", "-");
+}
+
+static void table(bool relative)
+{
+    printf("%-36s %5s", "load", "units");
+    if (!relative)
+        printf(" %12s %12s", "archive, ns", "plain C, ns");
+    printf(" %8s %10s %10s\n", "ratio", "slices, %", "moves, %");
     for (size_t i = 0; i < LOADS; i++)
         for (uint32_t units = 2; units <= 16; units += 14) {
             struct result r = measure(units, &loads[i]);
 
-            printf("%-36s %5u %12.1f %12.1f %8.2f\n", loads[i].name, (unsigned)units, r.archive, r.plain, r.ratio);
+            count(units, &loads[i]);
+            printf("%-36s %5u", loads[i].name, (unsigned)units);
+            if (!relative)
+                printf(" %12.1f %12.1f", r.archive, r.plain);
+            printf(" %8.2f", r.ratio);
+            print_share(&slices);
+            print_share(&moves);
+            printf("\n");
+            fflush(stdout);
         }
+    printf("ratio: how many times as fast as plain C the archive is, the median of %d pairs of runs\n", ROUNDS);
+    printf("slices and moves: how many of the archive's are done in place, by the plain way of crates/plain, rounded down\n");
 }
 
-static void curve(void)
+static void curve(bool relative)
 {
+    double unit = relative ? measure(2, &loads[0]).plain : 1;
+
     for (uint32_t units = 1; units <= PCL_UNITS_MOST; units++) {
         printf("%u", (unsigned)units);
         for (size_t i = 0; i < LOADS; i++) {
             struct result r = measure(units, &loads[i]);
 
-            printf(" %.1f %.1f", r.archive, r.plain);
+            printf(" %.3f %.3f %.3f", r.archive / unit, r.plain / unit, r.ratio);
         }
         printf("\n");
         fflush(stdout);
@@ -194,9 +262,14 @@ static void curve(void)
 
 int main(int count, char **arguments)
 {
-    if (count > 1 && !strcmp(arguments[1], "curve"))
-        curve();
-    else
-        table();
-    return 0;
+    bool relative = count == 3 && !strcmp(arguments[2], "relative");
+
+    if (count == 3 && (relative || !strcmp(arguments[2], "ns"))) {
+        if (!strcmp(arguments[1], "table"))
+            return table(relative), 0;
+        if (!strcmp(arguments[1], "curve"))
+            return curve(relative), 0;
+    }
+    fprintf(stderr, "bench: table or curve, and ns or relative\n");
+    return 1;
 }

@@ -1,2 +1,3 @@
 pub mod Masterless
 pub mod Slice
+pub mod laws

@@ -1,6 +1,10 @@
 // A slice: whose it is, whom its transmitter addresses, and what it leaves.
 use crate::masterless::pass_masterless;
 use answering::choice::is_open_with_another;
+use cells::layout::BLOCK;
+use cells::layout::HEADER;
+use cells::layout::RECEIVER;
+use cells::layout::TRANSMITTER;
 use cells::layout::UNITS;
 use cells::search::find_receiver;
 use cells::search::find_transmitter;
@@ -11,19 +15,21 @@ use cells::sides::put_transmitter;
 use cells::sides::receiver_of;
 use cells::sides::transmitter_of;
 use cells::units::holder;
-use sending::choice::acts;
-use sending::choice::choose;
-use sending::choice::destination;
+use plain::idle::acts_at;
+use plain::idle::destination_at;
+use plain::slice::carry;
+use plain::turn::turn_at;
+use plain::turn::turns_at;
 use slices::exchange;
 use slices::send_alone;
-use transmitter::side::Transmitter;
 use words::codes::Codes;
-ghost use mathlib.Core.Bool.{true};
+ghost use mathlib.Core.Bool.{true, false};
 ghost use mathlib.Core.Path.{_≡_};
 ghost use mathlib.Core.List.{List};
 ghost use Prim.Native.Nat.{ℕ, _<_};
-ghost use Rattle.cells.specs.Fitted.{Fitted, transmitterOf};
+ghost use Rattle.cells.specs.Fitted.{Fitted, masterOf, putMaster};
 ghost use Rattle.cells.specs.Ranges.{inRange};
+ghost use Rattle.master.specs.Section.{nextOf};
 ghost use Rattle.bus.specs.Slice.{unheard, heardBy, actingSlice, sliceOf, served, masterSlice, slicePassed};
 
 // The address that the master gave, and the codes A and B.
@@ -38,11 +44,11 @@ pub enum Slot {
 }
 
 // Where no receiver has the address, or it is open with another.
-fn send_unheard(cells: &mut [u16], unit: usize, t: Transmitter) -> Codes
-    requires { ⌜ Fitted (now cells) unit × (t ≡ transmitterOf (now cells) unit) ⌝ }
+fn send_unheard(cells: &mut [u16], unit: usize) -> Codes
+    requires { ⌜ Fitted (now cells) unit ⌝ }
     ensures { λ r. ⌜ _≡_ {A = Codes × List ℕ} (r, now (cells .exit)) (unheard (now (cells .entry)) unit) ⌝ }
 {
-    let alone = send_alone(t);
+    let alone = send_alone(transmitter_of(cells, unit));
     put_transmitter(cells, unit, alone.transmitter);
     alone.codes
 }
@@ -51,44 +57,69 @@ fn send_unheard(cells: &mut [u16], unit: usize, t: Transmitter) -> Codes
 fn exchange_with(
     cells: &mut [u16],
     unit: usize,
-    t: Transmitter,
     other: usize,
     from: u16,
     mask: u16,
     parity: bool,
 ) -> Codes
     requires { ⌜ Fitted (now cells) unit × Fitted (now cells) other ⌝ }
-    requires { ⌜ (from < 32) × (t ≡ transmitterOf (now cells) unit) ⌝ }
+    requires { ⌜ from < 32 ⌝ }
     ensures { λ r. ⌜ _≡_ {A = Codes × List ℕ} (r, now (cells .exit)) (heardBy (now (cells .entry)) unit other from mask parity) ⌝ }
 {
     let r = receiver_of(cells, other);
     if is_open_with_another(r, from) {
-        return send_unheard(cells, unit, t);
+        return send_unheard(cells, unit);
     }
+    let t = transmitter_of(cells, unit);
     let pair = exchange(t, r, from, mask, parity);
     put_transmitter(cells, unit, pair.transmitter);
     put_receiver(cells, other, pair.receiver);
     pair.codes
 }
 
+// The plain slice in place, every other by value.
+fn hear_undamaged(cells: &mut [u16], unit: usize, other: usize, from: u16) -> Codes
+    requires { ⌜ Fitted (now cells) unit × Fitted (now cells) other ⌝ }
+    requires { ⌜ from < 32 ⌝ }
+    ensures { λ r. ⌜ _≡_ {A = Codes × List ℕ} (r, now (cells .exit)) (heardBy (now (cells .entry)) unit other from 0 false) ⌝ }
+{
+    let b = carry(
+        cells,
+        HEADER + unit * BLOCK + TRANSMITTER,
+        HEADER + other * BLOCK + RECEIVER,
+        from,
+    );
+    if b != 0 {
+        return Codes { a: 2, b };
+    }
+    exchange_with(cells, unit, other, from, 0, false)
+}
+
+fn hear(cells: &mut [u16], unit: usize, other: usize, from: u16, mask: u16, parity: bool) -> Codes
+    requires { ⌜ Fitted (now cells) unit × Fitted (now cells) other ⌝ }
+    requires { ⌜ from < 32 ⌝ }
+    ensures { λ r. ⌜ _≡_ {A = Codes × List ℕ} (r, now (cells .exit)) (heardBy (now (cells .entry)) unit other from mask parity) ⌝ }
+{
+    if mask != 0 {
+        return exchange_with(cells, unit, other, from, mask, parity);
+    }
+    if parity {
+        return exchange_with(cells, unit, other, from, mask, parity);
+    }
+    hear_undamaged(cells, unit, other, from)
+}
+
 // The slice of a transmitter that acts.
-fn serve_acting(
-    cells: &mut [u16],
-    unit: usize,
-    t: Transmitter,
-    from: u16,
-    mask: u16,
-    parity: bool,
-) -> Codes
+fn serve_acting(cells: &mut [u16], unit: usize, from: u16, mask: u16, parity: bool) -> Codes
     requires { ⌜ inRange (now cells) ≡ true ⌝ }
-    requires { ⌜ Fitted (now cells) unit × (from < 32) × (t ≡ transmitterOf (now cells) unit) ⌝ }
+    requires { ⌜ Fitted (now cells) unit × (from < 32) ⌝ }
     ensures { λ r. ⌜ _≡_ {A = Codes × List ℕ} (r, now (cells .exit)) (actingSlice (now (cells .entry)) unit from mask parity) ⌝ }
 {
-    let other = find_receiver(cells, destination(t));
+    let other = find_receiver(cells, destination_at(cells, unit));
     if other < UNITS {
-        return exchange_with(cells, unit, t, other, from, mask, parity);
+        return hear(cells, unit, other, from, mask, parity);
     }
-    send_unheard(cells, unit, t)
+    send_unheard(cells, unit)
 }
 
 // The slice of a transmitter that was found. One that does not act leaves every cell.
@@ -97,9 +128,8 @@ fn serve_unit(cells: &mut [u16], unit: usize, from: u16, mask: u16, parity: bool
     requires { ⌜ Fitted (now cells) unit × (from < 32) ⌝ }
     ensures { λ r. ⌜ _≡_ {A = Codes × List ℕ} (r, now (cells .exit)) (sliceOf (now (cells .entry)) unit from mask parity) ⌝ }
 {
-    let t = transmitter_of(cells, unit);
-    if acts(choose(t)) {
-        return serve_acting(cells, unit, t, from, mask, parity);
+    if acts_at(cells, unit) {
+        return serve_acting(cells, unit, from, mask, parity);
     }
     Codes::none()
 }
@@ -123,16 +153,28 @@ fn serve(cells: &mut [u16], address: u16, mask: u16, parity: bool) -> Given
     }
 }
 
-// The master's next address, and its slice.
+// The master's next address: in place where the section is a plain one.
+fn take_next(cells: &mut [u16], unit: usize) -> u16
+    requires { ⌜ Fitted (now cells) unit ⌝ }
+    ensures { λ r. ⌜ _≡_ {A = ℕ × List ℕ} (r, now (cells .exit)) (nextOf (masterOf (now (cells .entry)) unit) .address, putMaster (now (cells .entry)) unit (nextOf (masterOf (now (cells .entry)) unit) .side)) ⌝ }
+{
+    if turns_at(cells, unit) {
+        return turn_at(cells, unit);
+    }
+    let section = master_of(cells, unit);
+    let next = section.next_address();
+    put_master(cells, unit, next.side);
+    next.address
+}
+
+// And its slice.
 fn serve_next(cells: &mut [u16], unit: usize, mask: u16, parity: bool) -> Given
     requires { ⌜ inRange (now cells) ≡ true ⌝ }
     requires { ⌜ Fitted (now cells) unit ⌝ }
     ensures { λ r. ⌜ _≡_ {A = Given × List ℕ} (r, now (cells .exit)) (masterSlice (now (cells .entry)) unit mask parity) ⌝ }
 {
-    let section = master_of(cells, unit);
-    let next = section.next_address();
-    put_master(cells, unit, next.side);
-    serve(cells, next.address, mask, parity)
+    let address = take_next(cells, unit);
+    serve(cells, address, mask, parity)
 }
 
 pub fn pass_slice(cells: &mut [u16], mask: u16, parity: bool) -> Slot

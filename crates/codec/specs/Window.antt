@@ -1,5 +1,5 @@
 -- A part of a list at a place, and a list put in its place: the ways into the lent cells and out of them. One cell alone is also set: the
--- header's, by `putHolder` (`cells`, `Layout`).
+-- header's, by `putHolder` (`cells`, `Layout`), and a silo's, where a word is added in place (`plain`).
 -- Assumes nothing.
 use mathlib.Core.List.{List, _++_}
 use Prim.Native.Nat.{ℕ, _+_}

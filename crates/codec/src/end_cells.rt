@@ -20,7 +20,7 @@ pub const SIDE: usize = 72;
 
 // The head's cells: the words held, the words since the last CRC, what only one side has (the destination latched at the opening, or
 // whether the message is truncated), the low half of the address / 2, the byte count / 2, two cells of bits, and the CRC.
-const HELD: usize = 0;
+pub const HELD: usize = 0;
 
 const BLOCK: usize = 1;
 

@@ -16,18 +16,18 @@ ghost use Rattle.codec.specs.Window.{splice};
 // The cells of a master section: the addresses held, the section's word, and the address silo's 64.
 pub const MASTER: usize = 66;
 
-const HELD: usize = 0;
+pub const HELD: usize = 0;
 
 pub const SECTION: usize = 1;
 
-const ADDRESSES: usize = 2;
+pub const ADDRESSES: usize = 2;
 
 // The parts of the section's word: the counter's next address and the switch, of 5 bits each, and three flags.
-const COUNTER: u16 = 0;
+pub const COUNTER: u16 = 0;
 
-const SWITCH: u16 = 5;
+pub const SWITCH: u16 = 5;
 
-const AUT_ADR: u16 = 10;
+pub const AUT_ADR: u16 = 10;
 
 pub const SEC: u16 = 11;
 

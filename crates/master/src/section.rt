@@ -54,7 +54,7 @@ fn count_down(place: u16, switch: u16) -> u16
 }
 
 // The silo with its oldest address at the end.
-fn turn(addresses: Silo) -> Silo
+pub fn turn(addresses: Silo) -> Silo
     ensures { λ r. ⌜ r ≡ returned addresses ⌝ }
 {
     if addresses.is_empty() {

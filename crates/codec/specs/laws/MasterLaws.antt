@@ -44,16 +44,16 @@ section-lt m h = rw (word-is m) (number-lt (fields m) (fit m h))
 -- ---- what is written is read
 
 -- a section of its parts is the same where each part is
-abbrev made : Silo → Bool → Bool → Bool → ℕ → ℕ → Master
+abbrev pub made : Silo → Bool → Bool → Bool → ℕ → ℕ → Master
 made addresses auto secondary now place switch =
     record { addresses = addresses; autoAddress = auto; secondary = secondary; nowMaster = now; place = place; switch = switch }
 
-same : {a a' : Silo} {b b' c c' d d' : Bool} {p p' s s' : ℕ} → a ≡ a' → b ≡ b' → c ≡ c' → d ≡ d' → p ≡ p' → s ≡ s'
+pub same : {a a' : Silo} {b b' c c' d d' : Bool} {p p' s s' : ℕ} → a ≡ a' → b ≡ b' → c ≡ c' → d ≡ d' → p ≡ p' → s ≡ s'
     → made a b c d p s ≡ made a' b' c' d' p' s'
 same a b c d p s = rw (a, b, c, d, p, s)
 
 -- AUT ADR is found as it stands where an address is held or it is set
-auto-stays : (s : Silo) (auto : Bool) → (auto ≡ false → isEmpty s ≡ false) → autoFound s auto ≡ auto
+pub auto-stays : (s : Silo) (auto : Bool) → (auto ≡ false → isEmpty s ≡ false) → autoFound s auto ≡ auto
 auto-stays s true some = or-set (isEmpty s)
   where
     or-set : (b : Bool) → b || true ≡ true
@@ -61,7 +61,7 @@ auto-stays s true some = or-set (isEmpty s)
     or-set false = refl
 auto-stays s false some = rw (some refl)
 
-counter-stays : (place switch : ℕ) → 1 ≤ place → place ≤ switch → counterIn place switch ≡ place
+pub counter-stays : (place switch : ℕ) → 1 ≤ place → place ≤ switch → counterIn place switch ≡ place
 counter-stays place switch least most = sym (here _ (both (le-leb _ _ least) (le-leb _ _ most)) refl)
 
 module _ (m : Master) (h : Within m) where

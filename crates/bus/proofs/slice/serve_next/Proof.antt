@@ -10,33 +10,26 @@ use Rattle.cells.specs.laws.PutLaws.{master-part}
 use Rattle.codec.specs.Masters.{encMaster}
 use Rattle.master.specs.laws.Laws.{within-next, next-lt}
 use Rattle.master.specs.Section.{nextOf}
-use Rattle.master.specs.declared.section.Next.{Next}
-use Rattle.bus.specs.Slice.{served, afterNext}
+use Rattle.bus.specs.Slice.{served}
 use Rattle.bus.proofs.slice.serve_next.Statement.{statement}
 use Rattle.bus.proofs.slice.serve_next.Tie as tie
 
-put-master-requires : tie.Need-put-master-requires
-put-master-requires c κs =
-    let start = c .before .before .before .before .before in
-    (start .pre .1, rw (c .before .next-address .ensures, c .before .before .master-of .ensures) (within-next _ (master-within _ _ (start .pre .1))))
-
 serve-requires : tie.Need-serve-requires
 serve-requires c κs =
-    let start = c .before .before .before .before .before .before .before .before .before in
+    let start = c .before .before .before .before .before .before in
     let s = start .args .cells .now in
     let m = masterOf s (start .args .unit) in
     let h = master-within _ _ (start .pre .1) in
-    let e = c .before .before .before .before .before .next-address .ensures ∙ ap nextOf (c .before .before .before .before .before .before .master-of .ensures) in (
-      rw (c .before .before .before .put-master .ensures, e) (in-range-kept s _ (start .pre .1) 148 (encMaster (nextOf m .side)) (master-part _ (within-next m h)) ∙ start .pre .0),
-      rw e (next-lt m h),
+    let e = c .before .before .before .take-next .ensures in (
+      rw (ap (λ (x : ℕ × List ℕ). x .1) e) (in-range-kept s _ (start .pre .1) 148 (encMaster (nextOf m .side)) (master-part _ (within-next m h)) ∙ start .pre .0),
+      rw (ap (λ (x : ℕ × List ℕ). x .0) e) (next-lt m h),
     )
 
 returns : tie.Need-returns
 returns c =
-    let a = c .before .before .before .before .before .before .before .before .before .before .before .before .args in
+    let a = c .before .before .before .before .before .before .before .before .before .args in
     c .before .before .serve .ensures
-    ∙ ap (λ (l : List ℕ). served l (c .before .before .before .before .before .before .before .before .next-address .result .address) (a .mask) (a .parity)) (c .before .before .before .before .before .before .put-master .ensures)
-    ∙ ap (λ (n : Next). afterNext (a .cells .now) (a .unit) n (a .mask) (a .parity)) (c .before .before .before .before .before .before .before .before .next-address .ensures ∙ ap nextOf (c .before .before .before .before .before .before .before .before .before .master-of .ensures))
+    ∙ ap (λ (x : ℕ × List ℕ). served (x .1) (x .0) (a .mask) (a .parity)) (c .before .before .before .before .before .before .take-next .ensures)
 
 pub serve-next-spec : {M : Type 1} → statement M
-serve-next-spec = tie.close (tie.spec (λ c. search needs) (λ c. search needs) put-master-requires serve-requires (λ c. search needs) returns)
+serve-next-spec = tie.close (tie.spec (λ c. search needs) serve-requires (λ c. search needs) returns)

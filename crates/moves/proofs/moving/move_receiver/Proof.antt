@@ -1,42 +1,55 @@
--- The side out of its window, the rule on it and on the memory, and the side put back.
+-- Nothing to move, the plain move, or the move by value.
 use borrow.Author.Needs.{needs}
+use borrow.Author.Tests.{not-false}
 use mathlib.Core.List.{List}
-use mathlib.Core.Path.{refl, ap}
+use mathlib.Core.Path.{refl, ap, sym, _∙_}
 use Prim.Native.Nat.{ℕ}
-use Rattle.cells.specs.laws.FittedLaws.{receiver-within}
+use Rattle.cells.specs.Fitted.{receiverOf}
+use Rattle.cells.specs.Layout.{memoryLength}
 use Rattle.laws.specs.Pick.{past, here}
-use Rattle.receiver.specs.declared.moves.Moved.{Moved}
-use Rattle.receiver.specs.laws.Keeps.{within-moved}
+use Rattle.plain.specs.Moving.{receiverStored}
+use Rattle.receiver.specs.Moves as R
+use Rattle.words.specs.declared.answers.Move.{Move}
 use Rattle.moves.specs.Moving.{receiverMovedBy}
+use Rattle.moves.specs.laws.Nothing.{receiver-done}
 use Rattle.moves.proofs.moving.move_receiver.Statement.{statement}
 use Rattle.moves.proofs.moving.move_receiver.Tie as tie
 
 returns : tie.Need-returns
-returns c = here _ (rw (c .before .may-move .ensures, c .before .before .receiver-of .ensures) at (c .if1 .taken)) refl
+returns c = here _ (rw (c .before .may-move-in .ensures) at (c .if1 .taken)) refl
 
-move-word-requires : tie.Need-move-word-requires
-move-word-requires c κs =
-    let taken = c .before .before .before .before .before in
-    let start = taken .before .before .before .before in
-    (rw (taken .receiver-of .ensures) (receiver-within _ _ (start .pre .0)), rw (c .memory-length .ensures) (start .pre .1))
-
-put-receiver-requires : tie.Need-put-receiver-requires
-put-receiver-requires c κs =
-    let gave = c .before .before .before in
-    let taken = gave .before .before .before .before .before .before in
-    let start = taken .before .before .before .before in
-    let by = rw (gave .before .memory-length .ensures, taken .receiver-of .ensures) at (gave .move-word .ensures) in
-    (start .pre .0, rw (ap (λ (p : Moved × List ℕ). p .0 .side) by) (within-moved _ (receiver-within _ _ (start .pre .0)) _ _))
+store-plain-requires : tie.Need-store-plain-requires
+store-plain-requires c κs =
+    let start = c .before .before .before .before .before .before .before in
+    (start .pre .0, start .pre .1, not-false _ (rw (c .before .before .before .may-move-in .ensures) at (c .before .before .if1 .left)))
 
 returns-2 : tie.Need-returns-2
 returns-2 c =
-    let gave = c .before .before .before .before .before .before in
-    let asked = gave .before .before .before .before .before in
-    let taken = asked .before in
-    let a = taken .before .before .before .before .args in
-    let by = rw (gave .before .memory-length .ensures, taken .receiver-of .ensures) at (gave .move-word .ensures) in
-    past _ (rw (asked .may-move .ensures, taken .receiver-of .ensures) at (gave .before .before .before .before .if1 .left))
-    (rw (c .before .before .put-receiver .ensures) (ap (receiverMovedBy (a .cells .now) (a .unit)) by))
+    let tested = c .before .before .before .before .before .before .before .before in
+    let a = tested .before .before .before .before .before .args in
+    let may = rw (tested .before .may-move-in .ensures) at (tested .if1 .left) in
+    let stored = receiverStored (a .cells .now) (a .memory .now) (a .unit) in
+    let gave = rw (c .if2 .taken) at (c .before .before .before .before .before .store-plain .ensures) in
+    past _ may
+    (ap (λ (l : List ℕ × List ℕ). (Move.Done, l .0, l .1)) gave
+    ∙ ap (λ (m : Move). (m, stored .0, stored .1))
+    (sym (receiver-done (receiverOf (a .cells .now) (a .unit)) (a .memory .now) (memoryLength (a .cells .now) (a .unit)) may)))
+
+move-in-requires : tie.Need-move-in-requires
+move-in-requires c κs =
+    let pre = c .before .before .before .before .before .before .before .before .before .before .before .before .before .before .before .pre in
+    let kept = rw (c .before .before .if2 .left) at (c .before .before .before .before .before .before .before .store-plain .ensures) in
+    let cells = ap (λ (l : List ℕ × List ℕ). l .0) kept in
+    (rw cells (pre .0), rw (cells, ap (λ (l : List ℕ × List ℕ). l .1) kept) (pre .1))
+
+returns-3 : tie.Need-returns-3
+returns-3 c =
+    let tested = c .before .before .before .before .before .before .before .before .before .before .before .before .before .before .before in
+    let kept = rw (c .before .before .before .before .before .before .before .if2 .left) at (c .before .before .before .before .before .before .before .before .before .before .before .before .store-plain .ensures) in
+    let unit = tested .before .before .before .before .before .args .unit in
+    past _ (rw (tested .before .may-move-in .ensures) at (tested .if1 .left))
+    (c .before .before .before .before .move-in .ensures
+    ∙ ap (λ (l : List ℕ × List ℕ). receiverMovedBy (l .0) unit (R.moved (receiverOf (l .0) unit) (l .1) (memoryLength (l .0) unit))) kept)
 
 pub move-receiver-spec : {M : Type 1} → statement M
-move-receiver-spec = tie.close (tie.spec (λ c. search needs) (λ c. search needs) (λ c. search needs) returns (λ c. search needs) move-word-requires put-receiver-requires (λ c. search needs) (λ c. search needs) returns-2)
+move-receiver-spec = tie.close (tie.spec (λ c. search needs) (λ c. search needs) returns store-plain-requires (λ c. search needs) (λ c. search needs) returns-2 move-in-requires (λ c. search needs) (λ c. search needs) returns-3)

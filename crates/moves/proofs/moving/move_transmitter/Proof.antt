@@ -1,39 +1,45 @@
--- The side out of its window, the rule, and the side put back.
+-- Nothing to move, the plain move, or the move by value.
 use borrow.Author.Needs.{needs}
-use mathlib.Core.Path.{refl, ap}
-use Rattle.cells.specs.laws.FittedLaws.{transmitter-within}
+use borrow.Author.Tests.{not-false}
+use mathlib.Core.Path.{refl, ap, sym}
+use Rattle.cells.specs.Fitted.{transmitterOf}
+use Rattle.cells.specs.Layout.{memoryLength}
 use Rattle.laws.specs.Pick.{past, here}
-use Rattle.transmitter.specs.laws.Keeps.{within-moved}
-use Rattle.moves.specs.Moving.{transmitterMovedBy}
+use Rattle.plain.specs.Moving.{transmitterLoaded}
+use Rattle.words.specs.declared.answers.Move.{Move}
+use Rattle.moves.specs.laws.Nothing.{transmitter-done}
 use Rattle.moves.proofs.moving.move_transmitter.Statement.{statement}
 use Rattle.moves.proofs.moving.move_transmitter.Tie as tie
 
 returns : tie.Need-returns
-returns c = here _ (rw (c .before .may-move .ensures, c .before .before .transmitter-of .ensures) at (c .if1 .taken)) refl
+returns c = here _ (rw (c .before .may-move-out .ensures) at (c .if1 .taken)) refl
 
-move-word-requires : tie.Need-move-word-requires
-move-word-requires c κs =
-    let taken = c .before .before .before .before in
-    let start = taken .before .before .before .before in
-    (rw (taken .transmitter-of .ensures) (transmitter-within _ _ (start .pre .0)), rw (c .memory-length .ensures) (start .pre .1))
-
-put-transmitter-requires : tie.Need-put-transmitter-requires
-put-transmitter-requires c κs =
-    let gave = c .before in
-    let taken = gave .before .before .before .before .before in
-    let start = taken .before .before .before .before in
-    let by = rw (gave .before .memory-length .ensures, taken .transmitter-of .ensures) at (gave .move-word .ensures) in
-    (start .pre .0, rw by (within-moved _ (transmitter-within _ _ (start .pre .0)) _ _))
+load-plain-requires : tie.Need-load-plain-requires
+load-plain-requires c κs =
+    let start = c .before .before .before .before .before .before in
+    (start .pre .0, start .pre .1, not-false _ (rw (c .before .before .may-move-out .ensures) at (c .before .if1 .left)))
 
 returns-2 : tie.Need-returns-2
 returns-2 c =
-    let gave = c .before .before .before .before in
-    let asked = gave .before .before .before .before in
-    let taken = asked .before in
-    let a = taken .before .before .before .before .args in
-    let by = rw (gave .before .memory-length .ensures, taken .transmitter-of .ensures) at (gave .move-word .ensures) in
-    past _ (rw (asked .may-move .ensures, taken .transmitter-of .ensures) at (gave .before .before .before .if1 .left))
-    (rw (c .before .before .put-transmitter .ensures) (ap (transmitterMovedBy (a .cells .now) (a .unit)) by))
+    let tested = c .before .before .before .before .before in
+    let a = tested .before .before .before .before .before .args in
+    let may = rw (tested .before .may-move-out .ensures) at (tested .if1 .left) in
+    past _ may
+    (rw (c .before .before .before .load-plain .ensures, c .if2 .taken)
+    (ap (λ (m : Move). (m, transmitterLoaded (a .cells .now) (a .memory .now) (a .unit)))
+    (sym (transmitter-done (transmitterOf (a .cells .now) (a .unit)) (a .memory .now) (memoryLength (a .cells .now) (a .unit)) may))))
+
+move-out-requires : tie.Need-move-out-requires
+move-out-requires c κs =
+    let pre = c .before .before .before .before .before .before .before .before .before .before .before .pre in
+    let kept = rw (c .before .if2 .left) at (c .before .before .before .before .load-plain .ensures) in
+    (rw kept (pre .0), rw kept (pre .1))
+
+returns-3 : tie.Need-returns-3
+returns-3 c =
+    let tested = c .before .before .before .before .before .before .before .before .before in
+    let kept = rw (c .before .before .before .before .if2 .left) at (c .before .before .before .before .before .before .before .load-plain .ensures) in
+    past _ (rw (tested .before .may-move-out .ensures) at (tested .if1 .left)) (rw kept at (c .before .before .move-out .ensures))
 
 pub move-transmitter-spec : {M : Type 1} → statement M
-move-transmitter-spec = tie.close (tie.spec (λ c. search needs) (λ c. search needs) (λ c. search needs) returns (λ c. search needs) move-word-requires put-transmitter-requires (λ c. search needs) returns-2)
+move-transmitter-spec = tie.close (tie.spec (λ c. search needs) (λ c. search needs) returns load-plain-requires (λ c. search needs) returns-2 move-out-requires (λ c. search needs) returns-3)

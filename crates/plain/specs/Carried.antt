@@ -1,0 +1,40 @@
+-- What a plain slice has done, in the words of the slice's own definitions.
+-- Assumes nothing.
+use mathlib.Core.Bool.{false}
+use mathlib.Core.List.{List}
+use mathlib.Core.Logic.{_⊎_}
+use mathlib.Core.Path.{_≡_}
+use Prim.Native.Nat.{ℕ, _+_, _≤_}
+use lib.ListN.{length}
+use Rattle.answering.specs.Choice.{openWithAnother}
+use Rattle.codec.specs.Receivers.{encReceiver, receiverAt}
+use Rattle.codec.specs.Transmitters.{encTransmitter, transmitterAt}
+use Rattle.codec.specs.Window.{splice}
+use Rattle.receiver.specs.declared.side.Receiver.{Receiver}
+use Rattle.slices.specs.Slice.{exchanged}
+use Rattle.slices.specs.declared.Pair.{Pair}
+use Rattle.transmitter.specs.declared.side.Transmitter.{Transmitter}
+
+-- two windows of 72 cells, apart, each with a cell behind it
+pub record Placed (cells : List ℕ) (t r : ℕ) : Type 0 where
+  pub sender : t + 73 ≤ length cells
+  pub receiver : r + 73 ≤ length cells
+  pub apart : (t + 72 ≤ r) ⊎ (r + 72 ≤ t)
+
+-- both sides put back
+abbrev pub putBoth : List ℕ → ℕ → ℕ → Transmitter → Receiver → List ℕ
+putBoth cells t r sender receiver = splice (splice cells t (encTransmitter sender)) r (encReceiver receiver)
+
+-- the undamaged slice between the sides at two places
+abbrev pub between : List ℕ → ℕ → ℕ → ℕ → Pair
+between cells t r from = exchanged (transmitterAt cells t) (receiverAt cells r) from 0 false
+
+-- the receiver was not open with another, A was 10 and B that code, and both sides are put back
+pub record Carried (cells : List ℕ) (t r from b : ℕ) (after : List ℕ) : Type 0 where
+  pub own : openWithAnother (receiverAt cells r) from ≡ false
+  pub codes : between cells t r from .codes ≡ record { a = 2; b = b }
+  pub sides : after ≡ putBoth cells t r (between cells t r from .transmitter) (between cells t r from .receiver)
+
+-- a slice that was tried: with 0, which is always allowed, nothing was done; any other number is its code B
+abbrev pub Tried : List ℕ → ℕ → ℕ → ℕ → ℕ → List ℕ → Type 0
+Tried cells t r from b after = (b ≡ 0 → after ≡ cells) × (1 ≤ b → Carried cells t r from b after)

@@ -1,0 +1,60 @@
+-- A plain move, on the cells of a side's window.
+-- Assumes nothing.
+use mathlib.Core.Bool.{Bool, true, false, _&&_}
+use mathlib.Core.Path.{_≡_}
+use mathlib.Core.List.{List, [], _∷_, _++_}
+use Prim.Native.Nat.{ℕ, _+_, _-_, _*_, _^_, _≤_, _<_}
+use lib.ListN.{set}
+use Rattle.cells.specs.Fitted.{transmitterOf, receiverOf, putTransmitter, putReceiver}
+use Rattle.cells.specs.Layout.{memoryLength}
+use Rattle.codec.specs.Window.{cell, window}
+use Rattle.laws.specs.Bits.{bits, bitAt}
+use Rattle.receiver.specs.Moves as R
+use Rattle.silos.specs.Cells.{shifted}
+use Rattle.transmitter.specs.Moves as T
+
+-- a head of which a plain move changes three cells alone: its numbers stand within their limits, its own cell below one of its own; it is
+-- loaded, and INH ADI is clear; neither the address nor the count leaves its 15 bits with this word; and the period's mark stands only
+-- where it counts
+pub record Plain (block own limit low count control : ℕ) (busy : Bool) : Type 0 where
+  pub since : block ≤ 128
+  pub single : own < limit
+  pub low15 : low < 32767
+  pub count15 : count < 32767
+  pub loaded : bitAt control 1 ≡ true
+  pub goes : bitAt control 2 ≡ false
+  pub marked : bitAt control 3 && busy ≡ bitAt control 3
+
+-- the word of the memory that a load names: EA17 and EA16 above 15 bits
+abbrev pub wordAt : ℕ → ℕ → ℕ
+wordAt low control = bits control 4 2 * 2 ^ 15 + low
+
+-- the head of a side with so many words, and with its load one word on
+abbrev pub headMoved : List ℕ → ℕ → ℕ → List ℕ
+headMoved cells at held =
+    held
+    ∷ cell cells (at + 1)
+    ∷ cell cells (at + 2)
+    ∷ (cell cells (at + 3) + 1)
+    ∷ (cell cells (at + 4) + 1)
+    ∷ cell cells (at + 5)
+    ∷ cell cells (at + 6)
+    ∷ cell cells (at + 7)
+    ∷ []
+
+-- a window with its load one word on, and a word more in its silo, or its oldest word taken
+abbrev pub wordPut : List ℕ → ℕ → ℕ → List ℕ
+wordPut cells at word = headMoved cells at (cell cells at + 1) ++ set (window cells (at + 8) 64) (cell cells at) word
+
+abbrev pub wordTaken : List ℕ → ℕ → List ℕ
+wordTaken cells at = headMoved cells at (cell cells at - 1) ++ shifted (window cells (at + 8) 64)
+
+-- the cells after a transmitter's move
+abbrev pub transmitterLoaded : List ℕ → List ℕ → ℕ → List ℕ
+transmitterLoaded cells memory unit =
+    putTransmitter cells unit (T.moved (transmitterOf cells unit) memory (memoryLength cells unit) .side)
+
+-- the cells and the memory after a receiver's
+abbrev pub receiverStored : List ℕ → List ℕ → ℕ → List ℕ × List ℕ
+receiverStored cells memory unit =
+    (putReceiver cells unit (R.moved (receiverOf cells unit) memory (memoryLength cells unit) .0 .side), R.moved (receiverOf cells unit) memory (memoryLength cells unit) .1)
