@@ -10,7 +10,15 @@ static uint16_t damaged(uint16_t cell)
     return once_in(3) ? (uint16_t)(cell ^ 1u << below(16)) : once_in(3) ? (uint16_t)below(140) : any_word();
 }
 
-/* One cell of its block from `least` on, some of them, or all behind one. The second library reads what the cells then mean. */
+/* The second library reads what the cells now mean. */
+static void read_damage(void)
+{
+    untidy = true;
+    of_cells(cells, &l);
+    memcpy(cells_before, cells, sizeof cells);
+}
+
+/* One cell of its block from `least` on, some of them, or all behind one. */
 static void damage_unit(uint32_t unit, uint32_t least)
 {
     static const uint32_t heads[] = { 0, TRANSMITTER, RECEIVER, SECTION };
@@ -20,9 +28,7 @@ static void damage_unit(uint32_t unit, uint32_t least)
 
     for (uint32_t i = first < least ? least : first; i < first + count && i < BLOCK; i++)
         block[i] = damaged(block[i]);
-    untidy = true;
-    of_cells(cells, &l);
-    memcpy(cells_before, cells, sizeof cells);
+    read_damage();
 }
 
 #endif

@@ -196,7 +196,9 @@ static void begin_message(void)
                | (once_in(3) ? 0 : PCL_TCR_TX_NPR) | (once_in(4) ? 0 : PCL_TCR_INH_ADI));
 }
 
-/* A receiver whose block is full: its sender gets the CRC to send as a word. */
+/* A receiver whose block is full: its sender gets the CRC to send as a word, and
+ * is restarted now and then so that it would be one. Since an opening word is
+ * marked it passes for no CRC. */
 static void forge_crc(void)
 {
     for (uint32_t u = 0; u < l.units; u++) {

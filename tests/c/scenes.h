@@ -1,8 +1,9 @@
 /* scenes.h - scenes of some thousand calls each: two units in a long talk, a
- * crowd of units all sending, and wild calls. */
+ * crowd of units all sending, wild calls, and messages broken off. */
 #ifndef SCENES_H
 #define SCENES_H
 
+#include "restarts.h"
 #include "talk.h"
 
 /* Three to sixteen units, each sending to some other, mostly over an address silo. */
@@ -87,12 +88,19 @@ static void wild(void)
     wild_calls(STEPS);
 }
 
+static void restart_some(void)
+{
+    for (unsigned i = 0; i < 20; i++)
+        restart(below(RESTARTS));
+}
+
 static inline void scene(void)
 {
-    switch (below(6)) {
+    switch (below(7)) {
     case 0: case 1: wild(); break;
     case 2: crowd(); break;
     case 3: talk(1000); break;
+    case 4: restart_some(); break;
     default: talk(20u << below(6)); break;
     }
 }

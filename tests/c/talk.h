@@ -77,12 +77,15 @@ static bool begin_sending(uint32_t t, uint32_t r)
     return by_hand;
 }
 
-/* TX INIT in mid-message, and a new message to the receiver left open. */
+/* TX INIT or a reset in mid-message, and a new message to the receiver left open. */
 static void restart_sender(uint32_t t, uint32_t to)
 {
     bool master = l.master == t + 1;
 
-    call_write(t, PCL_TCR, PCL_TCR_TX_INIT);
+    if (once_in(8))
+        call_reset(t);
+    else
+        call_write(t, PCL_TCR, PCL_TCR_TX_INIT);
     if (master)
         take_mastership(t);
     if (once_in(2))
@@ -92,10 +95,13 @@ static void restart_sender(uint32_t t, uint32_t to)
     call_write(t, PCL_TCR, to | PCL_TCR_SND_WD | PCL_TCR_INH_ADI | perhaps(PCL_TCR_TX_NPR, 2) | below(2));
 }
 
-/* RC INIT in mid-message, and the receiver ready again. */
+/* RC INIT or a reset in mid-message, and the receiver ready again. */
 static void restart_receiver(uint32_t r)
 {
-    call_write(r, PCL_RCR, PCL_RCR_RC_INIT);
+    if (once_in(8))
+        call_reset(r);
+    else
+        call_write(r, PCL_RCR, PCL_RCR_RC_INIT);
     if (!once_in(4))
         call_write(r, PCL_RDBC, 0);
     call_write(r, PCL_RCR, PCL_RCR_RC_NPR | PCL_RCR_RCV_WD | PCL_RCR_INH_ADI | !once_in(3));
@@ -150,7 +156,7 @@ static void pair_call(uint32_t t, uint32_t r)
     }
 }
 
-/* Near the end of a block: the two ends put out of step, or stopped at the CRC. */
+/* Near the end of a block or right behind it: an end restarted, or the two stopped at the CRC. */
 static void upset_pair(uint32_t t, uint32_t r)
 {
     uint32_t to = PCL_TCR_DESTINATION(receiver_of(r));
@@ -212,7 +218,7 @@ static void talk(uint32_t quiet)
             forge_crc();
         if (s->open && s->words == 128 && !s->loaded && !s->silo.held && once_in(3))
             upset_end(t, r);
-        if (s->words > 120 && quiet < 1000 && once_in(s->words == 128 ? 4 : 60))
+        if ((s->words > 120 || (s->open && !s->words)) && quiet < 1000 && once_in(s->words == 128 ? 4 : 60))
             upset_pair(t, r);
     }
 }

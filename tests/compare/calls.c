@@ -1,6 +1,7 @@
-/* calls.c - random scenes on the archive and the second library, compared after
- * every call; after each scene states that number 9 refuses, on the archive
- * alone, and units whose cells hold anything, on both.
+/* calls.c - messages broken off in every way, two ends that only cells of other
+ * making put out of step, and random scenes, on the archive and the second
+ * library, compared after every call; after each scene states that number 9
+ * refuses, on the archive alone, and units whose cells hold anything, on both.
  *
  * calls [calls [seed]] */
 #define DRIVE_MEMORY 0
@@ -101,6 +102,81 @@ static void last_word(void)
     must(was_reached("tx_move_overflow") && was_reached("rc_move_overflow"), "no memory overflow");
 }
 
+/* Document 02's request No. 1: every restart, or one in so many, and each of its cases reached. */
+static void break_messages(uint32_t step)
+{
+    depth = CELLS;
+    for (uint32_t i = 0; i < RESTARTS; i += step) {
+        restart(i);
+        look_at_registers("a message broken off");
+    }
+    depth = EVERYTHING;
+    must(all_reached("calls", "opening_") && all_reached("calls", "rule_1_open") && all_reached("calls", "rule_1_left_open")
+         && all_reached("calls", "rule_2_") && all_reached("calls", "reset_open_") && was_reached("tx_init_open")
+         && was_reached("rc_init_open"), "a restart leads nowhere");
+}
+
+/* A channel in mid-message, T with a word to send, and one of the two ends' cells changed. */
+static uint16_t *open_channel(uint32_t unit, uint32_t place)
+{
+    broken.at = AT_WORD;
+    broken.r = OF_R;
+    broken.master = OF_ANOTHER;
+    fit_three();
+    come_to_it();
+    return cells + block_at(unit) + place;
+}
+
+/* What two ends do that are not in step. Since an opening word is marked no call leads there, but cells can hold it. */
+static void out_of_step(void)
+{
+    *open_channel(OF_R, RECEIVER + WORDS) = 128;            /* the word is what R takes for the due CRC .. */
+    cells[block_at(OF_T) + TRANSMITTER + SILO] = cells[block_at(OF_R) + RECEIVER + CRC];
+    read_damage();
+    must(got(served(OF_T, 0, 0), 2, 1) && got(served(OF_T, 0, 0), 2, 3), "a word is not taken as a good CRC");
+    *open_channel(OF_R, RECEIVER + WORDS) = 128;            /* .. or a bad one */
+    read_damage();
+    must(got(served(OF_T, 1, 0), 2, 1) && got(served(OF_T, 0, 0), 2, 2), "a word is taken as a good CRC");
+    *open_channel(OF_T, TRANSMITTER + WORDS) = 128;         /* T's CRC is what R takes for a word */
+    read_damage();
+    must(got(served(OF_T, 0, 0), 2, 3), "a CRC is not stored as a word");
+    *open_channel(OF_R, RECEIVER + STATUS) |= 1 << 6;       /* a verdict on nothing is owed */
+    read_damage();
+    must(got(served(OF_T, 0, 0), 2, 3), "a word is not stored beside a verdict");
+    *open_channel(OF_R, RECEIVER + TRUNCATED) = 1;          /* truncated, and T not ending */
+    cells[block_at(OF_R) + RECEIVER + COMMAND] |= PCL_RCR_REJ;
+    read_damage();
+    must(got(served(OF_T, 0, 0), 2, 1), "no truncation again");
+    must(was_reached("rule_7_again") && was_reached("rule_8_due_taken_is_a_word") && was_reached("rule_8_due_good_of_a_word")
+         && was_reached("rule_9_stored_a_crc") && was_reached("rule_9_verdict_stands"), "ends out of step lead nowhere");
+}
+
+/* "That same transmitter" is told by its address: another unit that has come to have it. */
+static void another_with_its_address(void)
+{
+    *open_channel(OF_T, 0) = 30;
+    cells[block_at(OF_ANOTHER)] = OF_T;
+    read_damage();
+    call_write(OF_ANOTHER, PCL_TSDB, any_word());
+    call_write(OF_ANOTHER, PCL_TCR, PCL_TCR_DESTINATION(receiver_of(OF_R)) | BOTH_COMMANDS);
+    must(got(served(OF_T, 0, 0), 2, 0) && (the_r()->side.status & PCL_RSR_TXM_ERR) && !the_r()->side.open,
+         "not the same transmitter");
+    *open_channel(OF_T, 0) = OF_ANOTHER;                    /* and T with another's address, which hides that one */
+    read_damage();
+    must(got(served(OF_ANOTHER, 0, 0), 2, 0) && the_r()->side.open && (the_t()->side.status & PCL_TSR_TXM_ERR),
+         "the same transmitter");
+}
+
+/* A transmitter that is closed sends an opening word, and none of these answers it, whatever the cells hold. */
+static void look_at_openings(void)
+{
+    static const char *const never[] = { "closed_01", "closed_10", "rule_6_closed_transmitter", "rule_7_closed_transmitter",
+                                         "rule_8_due_good_of_a_closed_transmitters_word" };
+
+    for (size_t i = 0; i < sizeof never / sizeof never[0]; i++)
+        must(!was_reached(never[i]), "an opening word answered 01 or 10, or taken in mid-message");
+}
+
 int main(int count, char **arguments)
 {
     unsigned long long wanted = count > 1 ? strtoull(arguments[1], NULL, 10) : 3000000;
@@ -112,11 +188,16 @@ int main(int count, char **arguments)
     forget_both();
     wild_calls(STEPS);                          /* nothing fitted yet */
     last_word();
+    break_messages(wanted < 1000000 ? 17 : 1);  /* 17 shares no divisor with RESTARTS */
+    out_of_step();
+    another_with_its_address();
+    wanted += calls;
     while (calls < wanted) {
         between_scenes();
         scene();
     }
     look_everywhere("the end");
+    look_at_openings();
     printf("calls: %llu calls the same in every cell, register and word, %llu damages on the way; %llu bad headers refused\n", calls,
            damages, refused);
     return 0;

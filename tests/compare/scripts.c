@@ -33,6 +33,14 @@ static void put_record(uint32_t kind, size_t bytes, const uint32_t *body)
 
 #define RECORD(kind, ...) put_record(kind, sizeof (uint32_t[]){ __VA_ARGS__ } / 4, (uint32_t[]){ __VA_ARGS__ })
 
+static void must(bool holds, const char *what)
+{
+    if (holds)
+        return;
+    printf("scripts: after record %llu: %s\n", records, what);
+    exit(1);
+}
+
 static uint32_t call_fit(const uint32_t *setup, size_t length)
 {
     uint32_t body[1 + 3 * 255] = { (uint32_t)length / 4 }, answer = second_fit(&l, setup, length);

@@ -453,13 +453,6 @@ static void rejection(void)
     IS(rd(0, TSR), SORE | DTIRDY | 6); IS(rd(0, TCR), (12 << 8) | 8);
     IS(rd(1, RSR), RECOM | DTORDY | 6); IS(rd(1, RCR), (1 << 8) | RC_NPR | 8);
     IS(serve(1), sl(1, 0, 0));
-    /* a closed T before a receiver left open: R's part alone */
-    plain(); sender(1, SND_WD | ST_TXM); wr(1, RCR, RCV_WD); serve(1);
-    wr(0, TCR, TX_INIT); wb(0, TMMR + 1, 0x11); wr(1, RCR, REJ);
-    sender(1, SND_WD | ST_TXM);
-    IS(serve(1), sl(1, 2, 1)); IS(rd(0, TSR), BUSY | DTIRDY | 6);
-    IS(rd(0, TCR), (12 << 8) | SND_WD | ST_TXM | 8); IS(rd(1, RSR) & (RECOM | CHN_OPN), RECOM);
-    IS(serve(1), sl(1, 2, 0));
 }
 
 static void truncation(void)
@@ -483,14 +476,6 @@ static void truncation(void)
     serve(1); wr(1, RCR, RCV_DAT | REJ); rd(1, RDDB);
     IS(serve(1), sl(1, 3, 1)); IS(serve(1), sl(1, 3, 3));
     IS(rd(0, TSR), SUC | DTIRDY); IS(rd(1, RSR), SUC);
-    /* a closed T: R's part alone, then T opens with a receiver left open */
-    plain(); sender(1, SND_WD | ST_TXM); wr(1, RCR, RCV_WD | RCV_DAT); serve(1);
-    wr(0, TCR, TX_INIT); wb(0, TMMR + 1, 0x11); wr(1, RCR, REJ | RCV_DAT);
-    sender(2, SND_WD);
-    IS(serve(1), sl(1, 2, 1)); IS(rd(0, TSR), BUSY | DTIRDY | 6);
-    wr(1, RCR, RCV_DAT); IS(serve(1), sl(1, 2, 3));
-    IS(rd(0, TSCRC), reference_crc((uint16_t[]){ 0x1111 }, 1));
-    IS(rd(1, RDCRC), reference_crc((uint16_t[]){ 0x1111, 0x1111 }, 2));
 }
 
 static void periods(void)
@@ -626,23 +611,6 @@ static void blocks(void)
     full_block(); wr(0, TSDB, 5); IS(serve(1), sl(1, 2, 1)); wr(1, RCR, RCV_DAT | REJ);
     IS(serve(1), sl(1, 2, 3)); IS(serve(1), sl(1, 2, 1)); IS(serve(1), sl(1, 3, 1));
     IS(serve(1), sl(1, 3, 3)); IS(rd(1, RSR), SUC | RECOM);
-    /* R new, T full: an open T's CRC opens a closed R and is stored as a word */
-    full_block(); wr(0, TSDB, 5); wr(1, RCR, RC_INIT); wr(1, RCR, RCV_WD | RCV_DAT);
-    IS(serve(1), sl(1, 2, 3)); IS(rd(0, TSCRC), 0); IS(rd(0, TSR) & SUC, 0);
-    IS(rd(1, RDDB) != 5, 1); IS(serve(1), sl(1, 2, 3)); IS(rd(1, RDDB), 5);
-    /* T new, R full: a word is taken as the due CRC; good if it is the CRC */
-    full_block();
-    unsigned crc = rd(1, RDCRC);
-    wr(0, TCR, TX_INIT); wb(0, TMMR + 1, 0x11); wr(0, TSDB, crc); wr(0, TCR, (12 << 8) | SND_WD);
-    IS(serve(1), sl(1, 2, 1)); IS(rd(0, TSR), BUSY | DTIRDY | 6);
-    IS(serve(1), sl(1, 2, 3)); IS(rd(0, TSR), SUC | BUSY | DTIRDY);
-    IS(rd(0, TSCRC), reference_crc((uint16_t[]){ (uint16_t)crc }, 1)); IS(rd(1, RDCRC), 0);
-    IS(rn(1, RDDB), 4);
-    full_block();
-    wr(0, TCR, TX_INIT); wb(0, TMMR + 1, 0x11); wr(0, TSDB, crc ^ 1);
-    wr(0, TCR, (12 << 8) | SND_WD);
-    IS(serve(1), sl(1, 2, 1)); IS(serve(1), sl(1, 2, 2)); IS(rd(0, TSR), BUSY | DTIRDY | 0xA);
-    IS(serve(1), sl(1, 2, 0)); IS(rd(0, TSR), TBS_BSY | DTIRDY | 2);
 }
 
 static void others(void)
@@ -668,12 +636,228 @@ static void others(void)
     for (int i = 0; i < 64; i++) IS(rd(1, RDDB), i + 1u);
     IS(serve(1), sl(1, 3, 1)); IS(rd(1, RSR) & 15, 0xE); IS(serve(1), sl(1, 3, 3));
     IS(rd(1, RSR), ERR | BC_OFL | SUC);
-    /* one verdict mark: taken with A 11, T begins anew, the next A 11 gets it */
-    plain(); sender(1, SND_WD | ST_TXM); wr(1, RCR, RCV_WD | RCV_DAT);
-    serve(1); IS(serve_damaged(1, 1, 0), sl(1, 3, 1));
-    wr(0, TCR, TX_INIT); wb(0, TMMR + 1, 0x11); sender(1, SND_WD | ST_TXM);
-    wr(1, RCR, RCV_DAT | REJ);                  /* a verdict is owed: no rule 7 */
-    IS(serve(1), sl(1, 2, 3)); IS(serve(1), sl(1, 3, 2));
+}
+
+/* --------------------------------------------------- document 02, request 1 */
+
+/* T in mid-message with 12: two words taken, ST TXM and SND WD set. */
+static void two_words(void)
+{
+    sender(2, SND_WD | ST_TXM); wr(1, RCR, RCV_WD | RCV_DAT);
+    IS(serve(1), sl(1, 2, 3)); IS(serve(1), sl(1, 2, 3));
+}
+
+static void mid_message(void) { plain(); two_words(); }
+
+/* TX INIT at unit 0, which is master again, and a new message of `n` words. */
+static void restart(unsigned n, unsigned command)
+{
+    wr(0, TCR, TX_INIT); wb(0, TMMR + 1, (MASTER | AUT_ADR) >> 8);
+    sender(n, command);
+}
+
+/* T's slice is the opening word that 12 may not take: "At a receiver open with
+ * that same transmitter it sets TXM ERR, closes and gets 00".  `before` is what
+ * RSR's bits 5 to 14 then show besides, `codes` its bits 0 to 3. */
+static void refused_opening(int line, unsigned before, unsigned codes)
+{
+    unsigned held = rd(1, RSR) & DTORDY, crc = rd(1, RDCRC), sent = rd(0, TCR) & ~(SND_WD | ST_TXM);
+
+    is(line, "T is closed", rd(0, TMMR) & T_OPEN, 0);
+    is(line, "R is open", rd(1, RSR) & CHN_OPN, CHN_OPN);
+    is(line, "the slice", serve(1), sl(1, 2, 0));
+    is(line, "RSR", rd(1, RSR), ERR | TXM_ERR | before | held | codes);
+    is(line, "RCR", rd(1, RCR) & (REJ | RCV_WD | RCV_DAT | 0x1F00), 1 << 8);
+    is(line, "RDCRC", rd(1, RDCRC), crc);
+    is(line, "TSR", rd(0, TSR), TBS_BSY | DTIRDY | 2);      /* A 10, B 00 */
+    is(line, "TCR", rd(0, TCR), sent);                      /* the word stays in the silo */
+    is(line, "TMMR", rd(0, TMMR) & T_OPEN, 0);
+}
+
+/* "it sets TXM ERR, closes and gets 00, ahead of rule 3", and so of all behind it. */
+static void opening_at_an_open_receiver(void)
+{
+    /* where rule 9 would have stored it: with RCV DAT, with RCV WD */
+    mid_message(); restart(1, SND_WD | ST_TXM); refused_opening(__LINE__, 0, 2);
+    mid_message(); wr(1, RCR, RCV_WD); restart(1, SND_WD); refused_opening(__LINE__, 0, 2);
+    /* where it would have answered 01: no command; no room */
+    mid_message(); wr(1, RCR, 0); restart(1, SND_WD | ST_TXM); refused_opening(__LINE__, 0, 2);
+    mid_message();
+    for (unsigned i = 0; i < 62; i++) { wr(0, TSDB, i); IS(serve(1), sl(1, 2, 3)); }
+    IS(rd(1, RCR) & 8, 0); restart(1, SND_WD | ST_TXM); refused_opening(__LINE__, 0, 2);
+    /* rule 3 would have closed it and set nothing; ERR stood, so the codes stay */
+    static const unsigned errors[] = { TIM_OUT, PAR, MEM_OFL, TIM_OUT | BC_OFL };
+    for (size_t i = 0; i < 4; i++) {
+        mid_message(); wr(1, RSR, errors[i]); wr(1, RCR, RCV_WD | RCV_DAT);
+        restart(1, SND_WD | ST_TXM); refused_opening(__LINE__, errors[i], 0xE);
+    }
+    /* NXL is no bit that a host writes: a move to the second word of a memory of one */
+    fit_plain(2, 2, 1); wb(0, TMMR + 1, (MASTER | AUT_ADR) >> 8); two_words();
+    wr(1, RDBC, 0); wr(1, RDBA, 2); wr(1, RCR, RC_NPR); IS(mv(1, 1), 0); wr(1, RCR, RCV_WD | RCV_DAT);
+    restart(1, SND_WD | ST_TXM); refused_opening(__LINE__, NXL, 0xE);
+    /* TXM ERR stands, and the host has set its bits again: a new event, though rule 3 would have left the same */
+    mid_message(); wr(1, RSR, TXM_ERR); wr(1, RCR, RCV_WD | RCV_DAT | REJ);
+    restart(1, SND_WD | ST_TXM); refused_opening(__LINE__, 0, 0xE);
+    /* BC OFL alone, which rule 3 lets pass, freezes too */
+    mid_message(); wr(1, RSR, BC_OFL); wr(1, RCR, RCV_WD | RCV_DAT);
+    restart(1, SND_WD | ST_TXM); refused_opening(__LINE__, BC_OFL, 0xE);
+    /* rule 4 would have answered 10 with PAR */
+    plain(); sender(2, SND_WD | ST_TXM); wr(1, RCR, RCV_WD | RCV_DAT);
+    IS(serve_damaged(1, 1, 0), sl(1, 2, 3)); restart(1, SND_WD | ST_TXM); refused_opening(__LINE__, 0, 2);
+    /* rule 6 would have set RECOM, rule 7 truncated; both with 01 */
+    mid_message(); wr(1, RCR, REJ); restart(1, SND_WD | ST_TXM); refused_opening(__LINE__, 0, 2);
+    mid_message(); wr(1, RCR, REJ | RCV_DAT); restart(1, SND_WD | ST_TXM); refused_opening(__LINE__, 0, 2);
+    /* truncated already: the mark falls with the channel */
+    mid_message(); wr(0, TSDB, 3); wr(1, RCR, REJ | RCV_DAT); IS(serve(1), sl(1, 2, 1));
+    restart(1, SND_WD | ST_TXM); refused_opening(__LINE__, 0, 2);
+    /* rule 8: a due CRC not yet taken, taken, and the last CRC taken */
+    full_block(); restart(1, SND_WD | ST_TXM); refused_opening(__LINE__, 0, 2);
+    full_block(); wr(0, TSDB, 5); IS(serve(1), sl(1, 2, 1));
+    restart(1, SND_WD | ST_TXM); refused_opening(__LINE__, 0, 2);
+    full_block(); IS(serve(1), sl(1, 3, 1)); restart(1, SND_WD | ST_TXM); refused_opening(__LINE__, 0, 2);
+    /* .. though the word is the very CRC that is due */
+    full_block();
+    unsigned crc = rd(1, RDCRC);
+    restart(0, 0); wr(0, TSDB, crc); wr(0, TCR, (12 << 8) | SND_WD); refused_opening(__LINE__, 0, 2);
+    /* right behind a due CRC answered 11, where both counts and both CRCs are 0 */
+    full_block(); wr(0, TSDB, 5); IS(serve(1), sl(1, 2, 1)); IS(serve(1), sl(1, 2, 3));
+    restart(1, SND_WD | ST_TXM); refused_opening(__LINE__, 0, 2);
+    /* no line carries the mark: no damage makes the word another */
+    for (int i = 0; i < 18; i++) {
+        mid_message(); restart(1, SND_WD | ST_TXM);
+        IS(serve_damaged(1, (uint16_t)(i < 16 ? 1 << i : 0xFFFF), i >= 16), sl(1, 2, 0));
+        IS(rd(1, RSR), ERR | TXM_ERR | DTORDY | 2); IS(rd(0, TSR), TBS_BSY | DTIRDY | 2);
+    }
+    /* a request at R, at T with RIB clear; with RIB set T tries on, and is busy */
+    mid_message(); wr(1, RCR, RCV_WD | RCV_DAT | RC_NPR | IE); IS(level(1, 1), 0);
+    restart(1, SND_WD | ST_TXM | IE); IS(serve(1), sl(1, 2, 0)); IS(level(1, 1), 1); IS(level(0, 0), 1);
+    mid_message(); restart(1, SND_WD | ST_TXM | IE | RIB); IS(serve(1), sl(1, 2, 0)); IS(level(0, 0), 0);
+    IS(rd(0, TCR), (12 << 8) | SND_WD | ST_TXM | IE | RIB | 8); IS(rd(0, TSR), TBS_BSY | BUSY | DTIRDY | 2);
+    IS(serve(1), sl(1, 2, 0)); IS(rd(1, RSR), ERR | TXM_ERR | DTORDY | 2);   /* rule 2: ERR */
+    wr(1, RSR, 0); wr(1, RCR, RCV_WD | RCV_DAT); IS(serve(1), sl(1, 2, 3));
+    IS(rd(0, TSR), BUSY | DTIRDY | 0xE);
+    /* the period's mark falls with the channel */
+    mid_message(); second_period(&l, 1); restart(1, SND_WD | ST_TXM); IS(serve(1), sl(1, 2, 0));
+    IS(l.unit[1].receiver.side.mark, 0);
+}
+
+/* T, open, finds 12 closed: "a closed receiver answers 00 to anything but an
+ * opening word, a CRC included", and nothing of it changes.  T closes with TXM
+ * ERR, by the chart. */
+static void refused_going_on(int line, uint32_t a)
+{
+    is(line, "T is open", rd(0, TMMR) & T_OPEN, T_OPEN);
+    is(line, "R is closed", rd(1, RSR) & CHN_OPN, 0);
+    keep();
+    is(line, "the slice", serve(1), sl(1, a, 0));
+    is(line, "R unchanged", memcmp(&kept.unit[1].receiver, &l.unit[1].receiver, sizeof kept.unit[1].receiver) != 0, 0);
+    is(line, "TSR", rd(0, TSR), ERR | TXM_ERR | DTIRDY | a);
+    is(line, "T is closed", rd(0, TMMR) & T_OPEN, 0);
+    is(line, "TCR", rd(0, TCR) & (SND_WD | ST_TXM), 0);
+}
+
+/* "A restarted receiver can likewise pick up a message at its middle." */
+static void no_opening_at_a_closed_receiver(void)
+{
+    /* a word, with ST TXM and with SND WD; a due CRC, sent first and again */
+    mid_message(); wr(0, TSDB, 3); wr(1, RCR, RC_INIT); wr(1, RCR, RCV_WD | RCV_DAT); refused_going_on(__LINE__, 2);
+    mid_message(); wr(0, TSDB, 3); wr(0, TCR, SND_WD); wr(1, RCR, RC_INIT); wr(1, RCR, RCV_WD); refused_going_on(__LINE__, 2);
+    full_block(); wr(0, TSDB, 5); wr(1, RCR, RC_INIT); wr(1, RCR, RCV_WD | RCV_DAT); refused_going_on(__LINE__, 2);
+    full_block(); wr(0, TSDB, 5); IS(serve(1), sl(1, 2, 1)); wr(1, RCR, RC_INIT); wr(1, RCR, RCV_WD | RCV_DAT);
+    refused_going_on(__LINE__, 2);
+    /* reset is RC INIT too */
+    mid_message(); wr(0, TSDB, 3); second_reset(&l, 1); wr(1, RCR, RCV_WD | RCV_DAT); refused_going_on(__LINE__, 2);
+    /* no damage makes an opening word of it */
+    for (int i = 0; i < 18; i++) {
+        mid_message(); wr(0, TSDB, 3); wr(1, RCR, RC_INIT); wr(1, RCR, RCV_WD | RCV_DAT);
+        IS(serve_damaged(1, (uint16_t)(i < 16 ? 1 << i : 0xFFFF), i >= 16), sl(1, 2, 0));
+        IS(rd(1, RSR), BUSY); IS(rd(1, RCR), RCV_WD | RCV_DAT | 8); IS(rn(1, RDDB), 4);
+    }
+    /* as before it: a null cycle, the last CRC, and 00, which closes T and sets nothing */
+    mid_message(); wr(0, TCR, 0); wr(1, RCR, RC_INIT); wr(1, RCR, RCV_WD | RCV_DAT); refused_going_on(__LINE__, 1);
+    mid_message(); wr(1, RCR, RC_INIT); wr(1, RCR, RCV_WD | RCV_DAT); refused_going_on(__LINE__, 3);
+    mid_message(); wr(0, TSR, TIM_OUT); wr(1, RCR, RC_INIT); wr(1, RCR, RCV_WD | RCV_DAT); keep();
+    IS(serve(1), sl(1, 0, 0)); IS(rd(0, TSR), ERR | TIM_OUT | DTIRDY | 0xE); IS(rd(0, TMMR) & T_OPEN, 0);
+    IS(memcmp(&kept.unit[1], &l.unit[1], sizeof l.unit[1]) != 0, 0);
+    /* the next message of that T opens R, and is whole */
+    mid_message(); wr(0, TSDB, 3); wr(1, RCR, RC_INIT); wr(1, RCR, RCV_WD | RCV_DAT); IS(serve(1), sl(1, 2, 0));
+    IS(rd(0, TSDB), 3); wr(0, TSR, 0); wr(0, TCR, RD_SILO); IS(rd(0, TSDB), 3); wr(0, TCR, 0);
+    sender(1, SND_WD | ST_TXM);
+    IS(serve(1), sl(1, 2, 3)); IS(serve(1), sl(1, 3, 1)); IS(rd(1, RDDB), 0x1111); IS(rn(1, RDDB), 4);
+    IS(serve(1), sl(1, 3, 3)); IS(rd(1, RSR), SUC); IS(rd(0, TSR), SUC | DTIRDY);
+}
+
+/* The accident itself, and the message sent again. */
+static void nothing_glued(void)
+{
+    mid_message(); IS(rd(1, RDDB), 0x1111); IS(rd(1, RDDB), 0x2222);
+    restart(3, SND_WD | ST_TXM); refused_opening(__LINE__, 0, 2);
+    IS(rn(1, RDDB), 4);                                     /* none of the new words */
+    wr(1, RSR, 0); wr(1, RCR, RCV_WD | RCV_DAT); wr(0, TCR, (12 << 8) | SND_WD | ST_TXM);
+    for (unsigned i = 0; i < 3; i++) { IS(serve(1), sl(1, 2, 3)); IS(rd(1, RDDB), 0x1111 * (i + 1)); }
+    IS(serve(1), sl(1, 3, 1)); IS(serve(1), sl(1, 3, 3));
+    IS(rd(1, RSR), SUC); IS(rd(0, TSR), SUC | DTIRDY);
+    IS(rd(1, RDCRC), reference_crc((uint16_t[]){ 0x1111, 0x2222, 0x3333 }, 3));
+    /* what R's host has not taken stays, and comes before the next message; RC INIT takes it away */
+    mid_message(); restart(0, 0); wr(0, TSDB, 7); wr(0, TCR, (12 << 8) | SND_WD | ST_TXM); refused_opening(__LINE__, 0, 2);
+    wr(1, RSR, 0); wr(1, RCR, RCV_WD | RCV_DAT); wr(0, TCR, (12 << 8) | SND_WD | ST_TXM); IS(serve(1), sl(1, 2, 3));
+    IS(rd(1, RDDB), 0x1111); IS(rd(1, RDDB), 0x2222); IS(rd(1, RDDB), 7); IS(rn(1, RDDB), 4);
+    mid_message(); restart(0, 0); wr(0, TSDB, 7); wr(0, TCR, (12 << 8) | SND_WD | ST_TXM); refused_opening(__LINE__, 0, 2);
+    wr(1, RCR, RC_INIT); wr(1, RCR, RCV_WD | RCV_DAT); wr(0, TCR, (12 << 8) | SND_WD | ST_TXM); IS(serve(1), sl(1, 2, 3));
+    IS(rd(1, RDDB), 7); IS(rn(1, RDDB), 4);
+    /* TX INIT when the last CRC had been taken: no second message ends the first */
+    mid_message(); IS(serve(1), sl(1, 3, 1)); restart(1, SND_WD | ST_TXM); refused_opening(__LINE__, 0, 2);
+    IS(rd(1, RSR) & SUC, 0);
+    /* reset at either end is as INIT of its side */
+    mid_message(); second_reset(&l, 0); wb(0, TMMR + 1, (MASTER | AUT_ADR) >> 8); sender(1, SND_WD | ST_TXM);
+    refused_opening(__LINE__, 0, 2);
+}
+
+/* "that same transmitter": others, and other receivers. */
+static void opening_elsewhere(void)
+{
+    fit_plain(3, 3, 131072); wb(2, TMMR + 1, 0x11);
+    wr(1, RCR, RCV_WD | RCV_DAT); wr(2, RCR, RCV_WD | RCV_DAT); sender(1, SND_WD | ST_TXM); IS(serve(1), sl(1, 2, 3));
+    wr(0, TCR, TX_INIT);
+    /* 12 is left open with transmitter 1: to 3 it is open with another, no change */
+    wr(2, TSDB, 9); wr(2, TCR, (12 << 8) | SND_WD | ST_TXM); keep(); IS(serve(3), sl(3, 2, 0));
+    IS(memcmp(&kept.unit[1], &l.unit[1], sizeof l.unit[1]) != 0, 0); IS(rd(2, TSR), TBS_BSY | DTIRDY | 2);
+    /* transmitter 1 opens to 13: 12 is not asked, and keeps its channel */
+    wr(0, TSDB, 7); wr(0, TCR, (13 << 8) | SND_WD | ST_TXM); keep(); IS(serve(1), sl(1, 2, 3));
+    IS(memcmp(&kept.unit[1], &l.unit[1], sizeof l.unit[1]) != 0, 0);
+    IS(serve(1), sl(1, 3, 1)); IS(rd(2, RDDB), 7); IS(serve(1), sl(1, 3, 3)); IS(rd(2, RSR), SUC);
+    /* and then to 12, where its old channel still stands */
+    wr(0, TSR, 0); wr(0, TSDB, 8); wr(0, TCR, (12 << 8) | SND_WD | ST_TXM); refused_opening(__LINE__, 0, 2);
+    IS(rd(1, RDDB), 0x1111); IS(rn(1, RDDB), 4);
+    /* 12 is free: transmitter 3 opens it */
+    wr(1, RSR, 0); wr(1, RCR, RCV_WD | RCV_DAT); wr(2, TCR, (12 << 8) | SND_WD | ST_TXM); IS(serve(3), sl(3, 2, 3));
+    /* an open T whose R another has opened since: 00, no change at R, TXM ERR at T */
+    fit_plain(3, 3, 131072); wb(2, TMMR + 1, 0x11);
+    wr(1, RCR, RCV_WD | RCV_DAT); sender(2, SND_WD | ST_TXM); IS(serve(1), sl(1, 2, 3)); wr(1, RCR, RC_INIT);
+    wr(1, RCR, RCV_WD | RCV_DAT); wr(2, TSDB, 9); wr(2, TCR, (12 << 8) | SND_WD | ST_TXM); IS(serve(3), sl(3, 2, 3));
+    keep(); IS(serve(1), sl(1, 2, 0)); IS(rd(0, TSR), ERR | TXM_ERR | DTIRDY | 2);
+    IS(memcmp(&kept.unit[1], &l.unit[1], sizeof l.unit[1]) != 0, 0);
+}
+
+/* Unit 0 sends to its own receiver, 11; unit 1 is master. */
+static void to_itself(void)
+{
+    fit_plain(2, 2, 131072); wb(1, TMMR + 1, 0x11);
+    wr(0, RCR, RCV_WD | RCV_DAT); wr(0, TSDB, 1); wr(0, TCR, (11 << 8) | SND_WD | ST_TXM); IS(serve(1), sl(1, 2, 3));
+    wr(0, TCR, TX_INIT); wr(0, TSDB, 2); wr(0, TCR, (11 << 8) | SND_WD | ST_TXM);
+    IS(serve(1), sl(1, 2, 0)); IS(rd(0, RSR), ERR | TXM_ERR | DTORDY | 2); IS(rd(0, TSR), TBS_BSY | DTIRDY | 2);
+    /* its reset closes both sides: the next opening is a first one */
+    wr(0, RSR, 0); wr(0, RCR, RCV_WD | RCV_DAT); wr(0, TCR, (11 << 8) | SND_WD | ST_TXM); IS(serve(1), sl(1, 2, 3));
+    second_reset(&l, 0); wr(0, RCR, RCV_WD | RCV_DAT); wr(0, TSDB, 3); wr(0, TCR, (11 << 8) | SND_WD | ST_TXM);
+    IS(serve(1), sl(1, 2, 3)); IS(rd(0, RDDB), 3); IS(rn(0, RDDB), 4);
+    /* RC INIT alone: its own open transmitter finds it closed */
+    wr(0, TSDB, 4); wr(0, RCR, RC_INIT); wr(0, RCR, RCV_WD | RCV_DAT); IS(serve(1), sl(1, 2, 0));
+    IS(rd(0, TSR), ERR | TXM_ERR | DTIRDY | 2); IS(rd(0, RSR), BUSY); IS(rn(0, RDDB), 4);
+}
+
+static void restarts(void)
+{
+    opening_at_an_open_receiver(); no_opening_at_a_closed_receiver(); nothing_glued(); opening_elsewhere(); to_itself();
 }
 
 /* ---------------------------------------------------------------- demand 3 */
@@ -766,7 +950,7 @@ int main(void)
 {
     set_ups(); refusals(); register_bits(); data_silos(); master_section(); address_silo();
     single_words(); table(); damage(); rejection(); truncation(); periods(); requests();
-    moves(); blocks(); others(); demand_3();
+    moves(); blocks(); others(); restarts(); demand_3();
     printf("check: %lu checks, %d failures\n", checks, failures);
     return failures != 0;
 }

@@ -5,11 +5,23 @@
 /* Single counters.  "unreachable" ones are counted to show that they stay 0. */
 #define SECOND_COUNTERS(X) \
     /* the receiver rules */ \
-    X(rule_1_none) X(rule_1_open_with_another) \
-    X(rule_2_opens) X(rule_2_opens_by_open_transmitters_word) \
-    X(rule_2_opens_by_open_transmitters_crc) X(rule_2_opens_without_rcv_dat) \
-    X(rule_2_not_10) X(rule_2_no_rcv_wd) X(rule_2_err) X(rule_2_bc_ofl_alone) \
-    X(rule_2_no_room) \
+    X(rule_1_none) X(rule_1_open_with_another) X(rule_1_opening_word) \
+    X(rule_1_open_transmitter) X(rule_1_left_open) \
+    X(opening_again) X(opening_again_no_err) X(opening_again_bc_ofl_alone) \
+    X(opening_again_txm_err_stands) X(opening_again_another_error_stands) \
+    X(opening_again_parity_mark_stands) X(opening_again_before_rule_6) \
+    X(opening_again_before_rule_7) X(opening_again_truncated) \
+    X(opening_again_at_128) X(opening_again_verdict_owed) \
+    X(opening_again_right_behind_a_crc) \
+    X(opening_again_would_have_been_stored) X(opening_again_silo_full) \
+    X(opening_again_period_mark_stands) X(opening_again_to_itself) \
+    X(opening_elsewhere) \
+    X(rule_2_opens) X(rule_2_opens_without_rcv_dat) \
+    X(rule_2_no_rcv_wd) X(rule_2_err) X(rule_2_bc_ofl_alone) X(rule_2_no_room) \
+    X(rule_2_at_00) X(rule_2_at_01) X(rule_2_at_open_transmitters_word) \
+    X(rule_2_at_due_crc) X(rule_2_at_last_crc) \
+    X(rule_2_ready_at_open_transmitters_word) X(rule_2_ready_at_due_crc) \
+    X(rule_2_ready_at_last_crc) \
     X(rule_3) X(rule_3_with_bc_ofl_too) X(rule_3_parity_mark_stands) \
     X(rule_4) X(rule_4_at_00) X(rule_4_with_bc_ofl) \
     X(rule_5) X(rule_5_with_bc_ofl) \
@@ -42,7 +54,6 @@
     /* the transmitter on B */ \
     X(closed_00_rib_clear) X(closed_00_rib_set) X(closed_01) X(closed_10) \
     X(closed_11_opens) X(closed_11_opens_tbs_bsy_stood) \
-    X(stale_receiver) \
     X(word_taken_st_txm) X(word_taken_suc_txf) X(crc_taken) \
     X(transmitter_bits_frozen) X(receiver_bits_frozen) \
     /* the master section */ \
@@ -59,6 +70,7 @@
     X(tsdb_taken) X(tsdb_full) X(tsdb_tx_npr) X(tsdb_rd_silo) X(tsdb_ending) \
     X(tsdb_read_stays) X(tsdb_read_removes) X(rddb_read_stays) X(rddb_read_removes) \
     X(tx_init) X(tx_init_open) X(tx_init_master) X(rc_init) X(rc_init_open) \
+    X(reset_open_transmitter) X(reset_open_receiver) \
     X(write_requests_transmitter) X(write_requests_receiver) \
     X(write_sets_suc_txf) X(write_clears_nxl) X(write_second_error) \
     X(write_tbs_bsy_rib_set) \

@@ -13,6 +13,7 @@
 static struct second_link before;
 static uint16_t memory[16][131072];
 static unsigned long long calls;
+static unsigned long long opened[SECOND_UNITS][2];      /* the call in which each side last opened */
 
 static void must(bool holds, const char *what)
 {
@@ -46,6 +47,32 @@ static void ring_holds(const struct second_master *m)
              "equal neighbours");
 }
 
+/* The sides that were closed before this call and are open now. */
+static void note_openings(void)
+{
+    for (uint32_t u = 0; u < l.units; u++) {
+        if (l.unit[u].transmitter.side.open && !before.unit[u].transmitter.side.open)
+            opened[u][PCL_TRANSMITTER] = calls;
+        if (l.unit[u].receiver.side.open && !before.unit[u].receiver.side.open)
+            opened[u][PCL_RECEIVER] = calls;
+    }
+}
+
+/* Two ends that are open with each other opened in one slice, so that no word is of another message; and they count the same words.
+ * The counts alone do not show it: right behind a block's CRC both are 0, whatever end is restarted there. */
+static void channel_holds(uint8_t address)
+{
+    uint32_t sends = l.transmitter_at[address] - 1u;
+    const struct second_transmitter *t = &l.unit[sends].transmitter;
+    uint32_t hears = l.receiver_at[t->destination] - 1u;    /* no unit where there is none */
+    const struct second_side *r = &l.unit[hears % SECOND_UNITS].receiver.side;
+
+    if (!t->side.open || hears >= l.units || !r->open || (r->command >> 8 & 31) != address)
+        return;
+    must(opened[sends][PCL_TRANSMITTER] == opened[hears][PCL_RECEIVER], "two ends of a channel not opened in the same slice");
+    must(r->words == t->side.words, "two ends of a channel are out of step");
+}
+
 static void everything_holds(void)
 {
     must(l.master <= l.units, "master");
@@ -63,6 +90,9 @@ static void everything_holds(void)
         must(!(r->side.status & 0x10), "RSR bit 4 stored");
         must(!t->side.open || t->destination != 0, "destination 0");
     }
+    for (uint8_t address = 1; address < SECOND_ADDRESSES; address++)
+        if (l.transmitter_at[address])
+            channel_holds(address);
 }
 
 static uint32_t tally(uint32_t answer)
@@ -74,6 +104,7 @@ static uint32_t tally(uint32_t answer)
     must(number == 0 || answer < 10, "a value with a refusal");
     if (number == 1 || number == 2 || number == 3 || number == 4 || number == 7 || number == 9)
         must(memcmp(&before, &l, sizeof l) == 0, "a refusal changed the state");
+    note_openings();
     everything_holds();
     memcpy(&before, &l, sizeof l);
     return answer;

@@ -1,6 +1,8 @@
-/* second.c - the link of document 01, written apart from the first program.
+/* second.c - the link of document 01 with document 02's change No. 1, written
+ * apart from the first program.
  *
- * Quoted sentences are document 01's; "reading n" is one of docs/DECISIONS.md. */
+ * Quoted sentences are document 01's, or where it says so document 02's; "reading
+ * n" is one of docs/DECISIONS.md. */
 #include "second.h"
 #include "count.h"
 #ifdef SECOND_COUNT
@@ -85,9 +87,12 @@ enum {
     LOW_BYTE = 0x00FF, HIGH_BYTE = 0xFF00, BOTH_BYTES = 0xFFFF
 };
 
-/* What T puts on the lines, as it arrives at R (damage done). */
+/* What T puts on the lines, as it arrives at R (damage done).  Document 02: "An
+ * opening word must be marked as such."  The mark is no line, so no damage
+ * touches it. */
 struct sent {
     uint8_t a;
+    bool opening;               /* the word of a T that is not open */
     bool crc;                   /* T meant a CRC; else a word, or nothing */
     bool parity;
     uint16_t data;
@@ -888,6 +893,16 @@ static struct sent send_word(const struct second_transmitter *t)
     return (struct sent){ .a = WORD, .data = oldest(&t->side.silo) };
 }
 
+/* "not open, 10 with a word", marked as an opening word; nothing else is. */
+static struct sent send_opening_word(const struct second_transmitter *t)
+{
+    struct sent s = send_word(t);
+
+    COUNT(a_not_open);
+    s.opening = true;
+    return s;
+}
+
 /* From here on a CRC is sent and not yet answered 11. */
 static struct sent send_crc(struct second_transmitter *t, uint8_t a)
 {
@@ -942,15 +957,14 @@ static struct sent send_open(struct second_transmitter *t)
     return send_nothing(NULL_CYCLE);
 }
 
-/* "not open, 10 with a word."  Then the lines: "The parity bit makes the count
- * of ones in seventeen lines odd", and the damage inverts lines (reading 22). */
+/* What T sends, and then the lines: "The parity bit makes the count of ones in
+ * seventeen lines odd", and the damage inverts lines (reading 22). */
 static struct sent send(struct second_transmitter *t, uint16_t data_mask,
                         uint32_t parity_mask)
 {
     struct sent s;
 
-    COUNT_IF(!t->side.open, a_not_open);
-    s = t->side.open ? send_open(t) : send_word(t);
+    s = t->side.open ? send_open(t) : send_opening_word(t);
     s.parity = !odd_ones(s.data) ^ parity_mask;
     s.data ^= data_mask;
     return s;
@@ -969,34 +983,75 @@ static void count_idle(const struct second_transmitter *t)
     COUNT_IF(word && destination(t) && error(s), idle_err);
 }
 
+/* Rule 1: whose slice it is that R does not listen to. */
+static void count_another(const struct sent *s)
+{
+    COUNT(rule_1_open_with_another);
+    COUNT_IF(s->opening, rule_1_opening_word);
+    COUNT_IF(!s->opening, rule_1_open_transmitter);
+}
+
+/* Rule 2: an opening word, and what R lacks for it; or what is no opening word,
+ * also at an R that would have opened for one. */
 static void count_not_opened(const struct second_receiver *r, const struct sent *s)
 {
-    bool wanted = s->a == WORD && has(&r->side, ONE_WORD);
+    bool wanted = has(&r->side, ONE_WORD);
+    bool ready = wanted && !error(&r->side) && room(&r->side.silo);
 
-    COUNT_IF(s->a != WORD, rule_2_not_10);
-    COUNT_IF(s->a == WORD && !wanted, rule_2_no_rcv_wd);
-    COUNT_IF(wanted && error(&r->side), rule_2_err);
-    COUNT_IF(wanted && (r->side.status & ERRORS) == COUNT_OVERFLOW, rule_2_bc_ofl_alone);
-    COUNT_IF(wanted && !error(&r->side), rule_2_no_room);
+    COUNT_IF(s->opening && !wanted, rule_2_no_rcv_wd);
+    COUNT_IF(s->opening && wanted && error(&r->side), rule_2_err);
+    COUNT_IF(s->opening && wanted && (r->side.status & ERRORS) == COUNT_OVERFLOW,
+             rule_2_bc_ofl_alone);
+    COUNT_IF(s->opening && wanted && !error(&r->side), rule_2_no_room);
+    COUNT_IF(s->a == OFF, rule_2_at_00);
+    COUNT_IF(s->a == NULL_CYCLE, rule_2_at_01);
+    COUNT_IF(s->a == WORD && !s->opening && !s->crc, rule_2_at_open_transmitters_word);
+    COUNT_IF(s->a == WORD && s->crc, rule_2_at_due_crc);
+    COUNT_IF(s->a == LAST_CRC, rule_2_at_last_crc);
+    COUNT_IF(ready && s->a == WORD && !s->crc, rule_2_ready_at_open_transmitters_word);
+    COUNT_IF(ready && s->a == WORD && s->crc, rule_2_ready_at_due_crc);
+    COUNT_IF(ready && s->a == LAST_CRC, rule_2_ready_at_last_crc);
 }
 
-static void count_opened(const struct second_receiver *r, const struct sent *s,
-                         bool sender_open)
+/* Rule 2 opens, or the rules from 3 on. */
+static void count_opened(const struct second_receiver *r)
 {
     COUNT_IF(!r->side.open, rule_2_opens);
-    COUNT_IF(!r->side.open && sender_open && !s->crc, rule_2_opens_by_open_transmitters_word);
-    COUNT_IF(!r->side.open && sender_open && s->crc, rule_2_opens_by_open_transmitters_crc);
     COUNT_IF(!r->side.open && !has(&r->side, ALL_WORDS), rule_2_opens_without_rcv_dat);
-    COUNT_IF(r->side.open && !sender_open, stale_receiver);
 }
 
-static void count_reply(const struct reply *reply, bool sender_open)
+/* Document 02's rule, and each of the rules behind it that would have fitted. */
+static void count_opening_again(const struct second_receiver *r)
 {
-    COUNT_IF(reply->rejects && sender_open, rule_6_open_transmitter);
-    COUNT_IF(reply->rejects && !sender_open, rule_6_closed_transmitter);
-    COUNT_IF(reply->truncates && sender_open, rule_7_open_transmitter);
-    COUNT_IF(reply->truncates && !sender_open, rule_7_closed_transmitter);
-    COUNT_IF(reply->restarts && !sender_open,
+    const struct second_side *side = &r->side;
+    bool rejects = has(side, REJECT), whole = has(side, ALL_WORDS);
+
+    COUNT(opening_again);
+    COUNT_IF(!error(side), opening_again_no_err);
+    COUNT_IF((side->status & ERRORS) == COUNT_OVERFLOW, opening_again_bc_ofl_alone);
+    COUNT_IF(side->status & TRANSMISSION_ERROR, opening_again_txm_err_stands);
+    COUNT_IF(side->status & ERRORS & ~(COUNT_OVERFLOW | TRANSMISSION_ERROR),
+             opening_again_another_error_stands);
+    COUNT_IF(r->bad_parity, opening_again_parity_mark_stands);
+    COUNT_IF(rejects && !whole, opening_again_before_rule_6);
+    COUNT_IF(rejects && whole && r->verdict == NO_VERDICT, opening_again_before_rule_7);
+    COUNT_IF(r->truncated, opening_again_truncated);
+    COUNT_IF(side->words == BLOCK && r->verdict == NO_VERDICT, opening_again_at_128);
+    COUNT_IF(r->verdict != NO_VERDICT, opening_again_verdict_owed);
+    COUNT_IF(side->words == 0, opening_again_right_behind_a_crc);
+    COUNT_IF(has(side, ALL_WORDS | ONE_WORD) && room(&side->silo),
+             opening_again_would_have_been_stored);
+    COUNT_IF(!room(&side->silo), opening_again_silo_full);
+    COUNT_IF(side->mark, opening_again_period_mark_stands);
+}
+
+static void count_reply(const struct reply *reply, const struct sent *s)
+{
+    COUNT_IF(reply->rejects && !s->opening, rule_6_open_transmitter);
+    COUNT_IF(reply->rejects && s->opening, rule_6_closed_transmitter);
+    COUNT_IF(reply->truncates && !s->opening, rule_7_open_transmitter);
+    COUNT_IF(reply->truncates && s->opening, rule_7_closed_transmitter);
+    COUNT_IF(reply->restarts && s->opening,
              rule_8_due_good_of_a_closed_transmitters_word);
 }
 
@@ -1076,10 +1131,11 @@ static void open_receiver(struct second_receiver *r, uint8_t sender)
 }
 
 /* Rule 2: "Closed: A 10, RCV WD, no ERR, room: opens, stores, 11. Else 00."
- * It looks at A alone: an open T's CRC opens a closed R (reading 26). */
+ * Document 02: "a closed receiver answers 00 to anything but an opening word, a
+ * CRC included"; an opening word is A 10. */
 static bool may_open(const struct second_receiver *r, const struct sent *s)
 {
-    return s->a == WORD && has(&r->side, ONE_WORD) && !error(&r->side)
+    return s->opening && has(&r->side, ONE_WORD) && !error(&r->side)
         && room(&r->side.silo);
 }
 
@@ -1100,6 +1156,14 @@ static struct reply close_with(struct second_receiver *r, unsigned bits, uint8_t
         receiver_event(r, bits);
     close_receiver(r);
     return answer_b(b);
+}
+
+/* Document 02, of an opening word: "At a receiver open with that same
+ * transmitter it sets TXM ERR, closes and gets 00, ahead of rule 3". */
+static struct reply opened_again(struct second_receiver *r)
+{
+    count_opening_again(r);
+    return close_with(r, TRANSMISSION_ERROR, BUSY_REPLY);
 }
 
 /* Rule 6: "REJ without RCV DAT: RECOM, closes; T gets SORE and closes; B 01." */
@@ -1186,11 +1250,13 @@ static struct reply answer_word(struct second_receiver *r, const struct sent *s)
     return answer_b(TAKEN);
 }
 
-/* Rules 3 to 10: R open with this T. */
+/* R open with this T: document 02's rule, then 3 to 10. */
 static struct reply answer_open(struct second_receiver *r, const struct sent *s)
 {
     struct second_side *side = &r->side;
 
+    if (s->opening)
+        return opened_again(r);
     if (side->status & ERRORS & ~COUNT_OVERFLOW) {              /* 3 */
         COUNT(rule_3);
         COUNT_IF(side->status & COUNT_OVERFLOW, rule_3_with_bc_ofl_too);
@@ -1239,8 +1305,7 @@ static void show_receiver(struct second_receiver *r, bool frozen, const struct s
 
 /* "The receiver R addressed, first that fits"; rule 1: "None, or open with
  * another: B 00, no change."  A closed R's 00 leaves its bits (reading 14). */
-static struct reply answer(struct second_receiver *r, uint8_t sender,
-                           const struct sent *s, bool sender_open)
+static struct reply answer(struct second_receiver *r, uint8_t sender, const struct sent *s)
 {
     struct reply reply;
     bool frozen;
@@ -1249,7 +1314,7 @@ static struct reply answer(struct second_receiver *r, uint8_t sender,
     if (!r)
         return answer_b(BUSY_REPLY);
     if (r->side.open && (r->side.command & SENDER) >> SENDER_SHIFT != sender) {
-        COUNT(rule_1_open_with_another);
+        count_another(s);
         return answer_b(BUSY_REPLY);
     }
     if (!r->side.open && !may_open(r, s)) {
@@ -1257,9 +1322,9 @@ static struct reply answer(struct second_receiver *r, uint8_t sender,
         return answer_b(BUSY_REPLY);
     }
     frozen = error(&r->side);
-    count_opened(r, s, sender_open);
+    count_opened(r);
     reply = r->side.open ? answer_open(r, s) : open_and_store(r, sender, s);
-    count_reply(&reply, sender_open);
+    count_reply(&reply, s);
     show_receiver(r, frozen, s, &reply);
     return reply;
 }
@@ -1326,7 +1391,10 @@ static void open_transmitter(struct second_transmitter *t)
 }
 
 /* "Closed and 00: TBS BSY. But for TSR bits 0 to 3, a closed T is left
- * unchanged by 01, by 10 and by rules 6 and 7." */
+ * unchanged by 01, by 10 and by rules 6 and 7."  Since document 02's No. 1 the
+ * second sentence has no case left: a closed T sends an opening word, and that
+ * gets 11 or 00.  It is followed all the same, and counted to show that it is
+ * never met. */
 static void closed_on_b(struct second_transmitter *t, uint8_t b)
 {
     COUNT_IF(b == NULL_REPLY, closed_01);
@@ -1408,6 +1476,29 @@ static struct second_receiver *receiver_at(struct second_link *l, uint8_t addres
     return unit ? &l->unit[unit - 1].receiver : NULL;
 }
 
+/* Counting alone: an opening word of a T that R, or another receiver, still
+ * holds a channel of; and one for an R that holds a channel whose T has closed. */
+static void count_left_open(const struct second_link *l, const struct second_transmitter *t,
+                            const struct second_receiver *r, uint8_t address,
+                            const struct sent *s)
+{
+    if (!s->opening)
+        return;
+    for (uint32_t unit = 0; unit < l->units; unit++) {
+        const struct second_receiver *held = &l->unit[unit].receiver;
+        uint8_t holder = (held->side.command & SENDER) >> SENDER_SHIFT;
+        uint8_t sender = l->transmitter_at[holder];
+
+        if (!held->side.open)
+            continue;
+        COUNT_IF(held == r && holder == address && t == &l->unit[unit].transmitter,
+                 opening_again_to_itself);
+        COUNT_IF(held != r && holder == address, opening_elsewhere);
+        COUNT_IF(held == r && holder != address && sender
+                 && !l->unit[sender - 1].transmitter.side.open, rule_1_left_open);
+    }
+}
+
 /* The slice of a T that acts; answers A + 4 * B. */
 static uint32_t acted_slice(struct second_link *l, struct second_transmitter *t,
                             uint8_t address, uint16_t data_mask, uint32_t parity_mask)
@@ -1416,7 +1507,8 @@ static uint32_t acted_slice(struct second_link *l, struct second_transmitter *t,
     struct sent s = send(t, data_mask, parity_mask);
     struct reply reply;
 
-    reply = answer(r, address, &s, t->side.open);
+    count_left_open(l, t, r, address, &s);
+    reply = answer(r, address, &s);
     on_b(t, &s, &reply);
     return s.a + 4u * reply.b;
 }
@@ -1665,6 +1757,8 @@ static uint32_t reset(struct second_link *l, uint32_t unit)
 {
     if (!fitted(l, unit))
         return 1;
+    COUNT_IF(l->unit[unit].transmitter.side.open, reset_open_transmitter);
+    COUNT_IF(l->unit[unit].receiver.side.open, reset_open_receiver);
     initialize_transmitter(l, unit);
     initialize_receiver(l, unit);
     return 0;

@@ -1,4 +1,5 @@
-/* second.h - a second implementation of the link of document 01 (PCL11-B).
+/* second.h - a second implementation of the link of document 01 (PCL11-B), with
+ * document 02's request No. 1.
  *
  * The caller owns one `struct second_link`; zeroed memory is the unfitted
  * state.  Every call answers one number: number + 65536 * value.  The value is

@@ -1,4 +1,4 @@
--- Document 01, One slice: "The receiver R addressed, first that fits".
+-- Document 01, One slice: "The receiver R addressed, first that fits"; and what document 02, No. 1, puts in place of two of its sentences.
 -- Assumes nothing.
 use mathlib.Core.Bool.{Bool, true, false, not, _&&_, _||_}
 use Prim.Native.Nat.{ℕ}
@@ -14,9 +14,16 @@ use Rattle.answering.specs.declared.choice.Rule.{Rule}
 abbrev pub openWithAnother : Receiver → ℕ → Bool
 openWithAnother r from = r .end .opened && not (eqb (r .modes .sender) from)
 
--- Rule 2: "Closed: A 10, RCV WD, no ERR, room: opens .. Else 00." Of what T sends it looks at A alone (reading 26).
+-- Document 02, No. 1: "An opening word .. At a receiver open with that same transmitter". Where R is open with another, rule 1 has answered
+-- before. For such a word this rule stands in place of document 01's rules 3 to 10.
+abbrev pub reopening : Receiver → Sent → Bool
+reopening r sent = r .end .opened && sent .opening
+
+-- Rule 2: "Closed: A 10, RCV WD, no ERR, room: opens .. Else 00." Document 02, No. 1, replaces its A 10: "a closed receiver answers 00 to
+-- anything but an opening word, a CRC included". What has the mark is sent with A 10 (`sending`, `codeOf`), so that A is not asked beside
+-- it.
 abbrev pub mayOpen : Receiver → Sent → Bool
-mayOpen r sent = eqb (sent .code) 2 && r .commands .receiveWord && not (hasError r) && dataInReady r
+mayOpen r sent = sent .opening && r .commands .receiveWord && not (hasError r) && dataInReady r
 
 abbrev pub decidedClosed : Receiver → Sent → Rule
 decidedClosed r sent = pick (mayOpen r sent) Rule.Opens Rule.Refuses
@@ -61,8 +68,8 @@ decidedOpen r sent =
     (pick (eqb (sent .code) 0) Rule.OffLine
     (pick (rejecting r) Rule.Rejects (pick (truncating r sent) Rule.Truncates (decidedByCode r sent)))))
 
--- Rule 1, rule 2, or the others: an opening word is to an open R a word as any other (docs/DECISIONS.md, "T opens while R is still open
--- with it")
+-- Rule 1; document 02, No. 1, "ahead of rule 3"; rule 2; or the others
 abbrev pub decided : Receiver → ℕ → Sent → Rule
 decided r from sent =
-    pick (openWithAnother r from) Rule.Other (pick (not (r .end .opened)) (decidedClosed r sent) (decidedOpen r sent))
+    pick (openWithAnother r from) Rule.Other
+    (pick (reopening r sent) Rule.Reopened (pick (not (r .end .opened)) (decidedClosed r sent) (decidedOpen r sent)))

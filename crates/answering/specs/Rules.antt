@@ -1,4 +1,4 @@
--- Document 01, One slice: what R answers and does by each of its ten rules.
+-- Document 01, One slice: what R answers and does by each of its ten rules, and by that of document 02, No. 1.
 -- Assumes nothing.
 use mathlib.Core.Bool.{true, false}
 use Prim.Native.Nat.{ℕ}
@@ -19,7 +19,7 @@ answering b r = record { side = r; answer = answered b }
 abbrev pub untouched : Receiver → Answered
 untouched r = answering 0 r
 
--- Rule 2: "Closed: A 10, RCV WD, no ERR, room: opens, stores, 11."
+-- Rule 2: "Closed: .. RCV WD, no ERR, room: opens, stores, 11." For an opening word alone (document 02, No. 1).
 abbrev pub opens : Receiver → ℕ → Sent → Answered
 opens r from sent = answering 3 (wordStored (opening (showing r (sent .code) 3) from) sent)
 
@@ -32,11 +32,14 @@ faulted r sent = answering 0 (closed (showing r (sent .code) 0))
 abbrev pub checkFailed : Receiver → Sent → Answered
 checkFailed r sent = answering 2 (closed (parityFailed (showing r (sent .code) 2)))
 
+-- Document 02, No. 1: "it sets TXM ERR, closes and gets 00". By an event, so that it makes a request also where the bit stands (reading
+-- 11); RSR bits 0 to 3 show this slice, unless ERR stood before it (reading 15).
 -- Rule 5: "A 00: TXM ERR, closes, 00."
-abbrev pub offLine : Receiver → Sent → Answered
-offLine r sent = answering 0 (closed (transmissionFailed (showing r (sent .code) 0)))
+abbrev pub brokenOff : Receiver → Sent → Answered
+brokenOff r sent = answering 0 (closed (transmissionFailed (showing r (sent .code) 0)))
 
--- Rule 6: "REJ without RCV DAT: RECOM, closes; T gets SORE and closes; B 01." To a closed T too (reading 26).
+-- Rule 6: "REJ without RCV DAT: RECOM, closes; T gets SORE and closes; B 01." What a closed T sends does not come to
+-- this rule (document 02, No. 1).
 abbrev pub rejects : Receiver → Sent → Answered
 rejects r sent =
     record {
@@ -44,7 +47,8 @@ rejects r sent =
       answer = record { code = 1; rejects = true; truncates = false; restarts = false; truncated = false };
     }
 
--- Rule 7: "truncation. T becomes ending, R is marked truncated until it closes, nothing is stored; B 01." To a closed T too (reading 26).
+-- Rule 7: "truncation. T becomes ending, R is marked truncated until it closes, nothing is stored; B 01." What a closed
+-- T sends does not come to this rule (document 02, No. 1).
 abbrev pub truncates : Receiver → Sent → Answered
 truncates r sent =
     record {
@@ -84,11 +88,12 @@ waiting r sent = answering 1 (showing r (sent .code) 1)
 
 abbrev pub answeredAs : Receiver → ℕ → Sent → Rule → Answered
 answeredAs r from sent Rule.Other = untouched r
+answeredAs r from sent Rule.Reopened = brokenOff r sent
 answeredAs r from sent Rule.Opens = opens r from sent
 answeredAs r from sent Rule.Refuses = untouched r
 answeredAs r from sent Rule.Faulted = faulted r sent
 answeredAs r from sent Rule.BadParity = checkFailed r sent
-answeredAs r from sent Rule.OffLine = offLine r sent
+answeredAs r from sent Rule.OffLine = brokenOff r sent
 answeredAs r from sent Rule.Rejects = rejects r sent
 answeredAs r from sent Rule.Truncates = truncates r sent
 answeredAs r from sent Rule.TakesCrc = takesCrc r sent

@@ -5,12 +5,14 @@ use receiver::side::is_data_in_ready;
 use receiver::side::is_data_out_ready;
 use words::lines::Sent;
 ghost use mathlib.Core.Path.{_≡_};
-ghost use Rattle.answering.specs.Choice.{openWithAnother, decidedClosed, decidedCrc, decidedWord, decidedOpen, decided};
+ghost use Rattle.answering.specs.Choice.{openWithAnother, reopening, decidedClosed, decidedCrc, decidedWord, decidedOpen, decided};
 
 pub enum Rule {
     // 1. Open with another.
     Other,
-    // 2. Closed: it opens, or not.
+    // Document 02, No. 1. Open with the transmitter that sends an opening word.
+    Reopened,
+    // 2. Closed: an opening word opens it, or not.
     Opens,
     Refuses,
     // 3. An error bit other than BC OFL.
@@ -39,7 +41,7 @@ pub enum Rule {
 fn decide_closed(r: Receiver, sent: Sent) -> Rule
     ensures { λ x. ⌜ x ≡ decidedClosed r sent ⌝ }
 {
-    if (sent.code == 2) & r.commands.receiveWord & !has_error(r) & is_data_in_ready(r) {
+    if sent.opening & r.commands.receiveWord & !has_error(r) & is_data_in_ready(r) {
         return Rule::Opens;
     }
     Rule::Refuses
@@ -117,12 +119,22 @@ pub fn is_open_with_another(r: Receiver, from: u16) -> bool
     r.end.opened & (r.modes.sender != from)
 }
 
+// Document 02, No. 1: an opening word, where rule 1 does not fit.
+fn is_reopening(r: Receiver, sent: Sent) -> bool
+    ensures { λ x. ⌜ x ≡ reopening r sent ⌝ }
+{
+    r.end.opened & sent.opening
+}
+
 // The transmitter `from` has sent this to the receiver.
 pub fn decide(r: Receiver, from: u16, sent: Sent) -> Rule
     ensures { λ x. ⌜ x ≡ decided r from sent ⌝ }
 {
     if is_open_with_another(r, from) {
         return Rule::Other;
+    }
+    if is_reopening(r, sent) {
+        return Rule::Reopened;
     }
     if !r.end.opened {
         return decide_closed(r, sent);

@@ -33,6 +33,7 @@ fn tell(rule: Rule, truncated: bool) -> Answer
 {
     match rule {
         Rule::Other => give(0),
+        Rule::Reopened => give(0),
         Rule::Opens => give(3),
         Rule::Refuses => give(0),
         Rule::Faulted => give(0),
@@ -82,6 +83,7 @@ fn act(was: Receiver, r: Receiver, from: u16, sent: Sent, rule: Rule) -> Receive
 {
     match rule {
         Rule::Other => was,
+        Rule::Reopened => close(fail_transmission(r)),
         Rule::Opens => store_word(open_channel(r, from), sent),
         Rule::Refuses => was,
         Rule::Faulted => close(r),

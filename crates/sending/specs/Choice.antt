@@ -1,4 +1,4 @@
--- Document 01, One slice: whether T acts, and "A sent, first that fits".
+-- Document 01, One slice: whether T acts, and "A sent, first that fits"; document 02, No. 1: the mark of an opening word.
 -- Assumes nothing.
 use mathlib.Core.Bool.{Bool, true, false, not, _&&_, _||_}
 use Prim.Native.Nat.{ℕ}
@@ -81,5 +81,15 @@ wordOf t Choice.DueCrc = t .end .crc
 wordOf t Choice.Word = oldest (t .end .silo)
 wordOf t Choice.Null = 0
 
+-- Document 02, No. 1: "An opening word must be marked as such." What a T sends that is not open is one, and nothing else is.
+abbrev pub isOpening : Choice → Bool
+isOpening Choice.Idle = false
+isOpening Choice.Opening = true
+isOpening Choice.Stopped = false
+isOpening Choice.LastCrc = false
+isOpening Choice.DueCrc = false
+isOpening Choice.Word = false
+isOpening Choice.Null = false
+
 abbrev pub sentBy : Transmitter → Choice → Sent
-sentBy t choice = sentAs (codeOf choice) (wordOf t choice)
+sentBy t choice = sentAs (codeOf choice) (wordOf t choice) (isOpening choice)

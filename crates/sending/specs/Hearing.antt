@@ -74,8 +74,8 @@ heardOpen t choice answer =
 
 -- ---- a closed T
 
--- "opens a closed T"; "Closed and 00: TBS BSY. But for TSR bits 0 to 3, a closed T is left unchanged by 01, by 10 and by rules 6 and 7"
--- (reading 26)
+-- "opens a closed T"; "Closed and 00: TBS BSY. But for TSR bits 0 to 3, a closed T is left unchanged by 01, by 10 and by rules 6 and 7".
+-- Since document 02, No. 1, every receiver answers a closed T 00 or 11, so that the last sentence has no case left.
 abbrev pub heardClosed : Transmitter → ℕ → Transmitter
 heardClosed t b = pick (eqb b 3) (wordAccepted (opening t)) (pick (eqb b 0) (metBusy t) t)
 

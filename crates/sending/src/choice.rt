@@ -4,7 +4,7 @@ use transmitter::side::has_error;
 use words::lines::Sent;
 use words::lines::send;
 ghost use mathlib.Core.Path.{_≡_};
-ghost use Rattle.sending.specs.Choice.{mayOpen, allSent, chosenOpen, chosen, actsOn, destinationOf, codeOf, wordOf, sentBy};
+ghost use Rattle.sending.specs.Choice.{mayOpen, allSent, chosenOpen, chosen, actsOn, destinationOf, codeOf, wordOf, isOpening, sentBy};
 
 pub enum Choice {
     // It does not act.
@@ -136,8 +136,23 @@ fn word(t: Transmitter, choice: Choice) -> u16
     }
 }
 
+// Only what a closed transmitter sends is marked as an opening word.
+fn is_opening(choice: Choice) -> bool
+    ensures { λ r. ⌜ r ≡ isOpening choice ⌝ }
+{
+    match choice {
+        Choice::Opening => true,
+        Choice::Idle => false,
+        Choice::Stopped => false,
+        Choice::LastCrc => false,
+        Choice::DueCrc => false,
+        Choice::Word => false,
+        Choice::Null => false,
+    }
+}
+
 pub fn make_sent(t: Transmitter, choice: Choice) -> Sent
     ensures { λ r. ⌜ r ≡ sentBy t choice ⌝ }
 {
-    send(code(choice), word(t, choice))
+    send(code(choice), word(t, choice), is_opening(choice))
 }

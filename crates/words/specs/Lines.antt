@@ -8,15 +8,16 @@ use Rattle.words.specs.Parity.{parityOf}
 use Rattle.words.specs.declared.lines.Answer.{Answer}
 use Rattle.words.specs.declared.lines.Sent.{Sent}
 
--- the code A and the data, with their parity
-abbrev pub sentAs : ℕ → ℕ → Sent
-sentAs code word = record { code = code; word = word; parity = parityOf word }
+-- the code A and the data, with their parity; and whether it is an opening word, "marked as such" (document 02, No. 1)
+abbrev pub sentAs : ℕ → ℕ → Bool → Sent
+sentAs code word opening = record { code = code; word = word; parity = parityOf word; opening = opening }
 
--- "A slice call names a damage mask over 16 data lines and parity": it inverts lines (reading 22)
+-- "A slice call names a damage mask over 16 data lines and parity": it inverts lines (reading 22), and the mark of an opening word is none
+-- (docs/DECISIONS.md, "The mark of an opening word")
 abbrev pub damaged : Sent → ℕ → Bool → Sent
 damaged s mask parity =
-    pick parity (record { code = s .code; word = bitXor (s .word) mask; parity = not (s .parity) })
-    (record { code = s .code; word = bitXor (s .word) mask; parity = s .parity })
+    pick parity (record { code = s .code; word = bitXor (s .word) mask; parity = not (s .parity); opening = s .opening })
+    (record { code = s .code; word = bitXor (s .word) mask; parity = s .parity; opening = s .opening })
 
 -- the code B, with nothing told beside it
 abbrev pub answered : ℕ → Answer

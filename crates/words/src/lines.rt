@@ -3,11 +3,12 @@ use crate::parity::parity_line;
 ghost use mathlib.Core.Path.{_≡_};
 ghost use Rattle.words.specs.Lines.{sentAs, damaged, answered};
 
-// The code A, and the sixteen data lines with their parity.
+// The code A, and the sixteen data lines with their parity; and, which is no line, whether this is an opening word.
 pub struct Sent {
     pub code: u16,
     pub word: u16,
     pub parity: bool,
+    pub opening: bool,
 }
 
 // The code B, and what the receiver tells beside it: that it rejects or truncates the message, that its count of 128 restarts,
@@ -20,17 +21,18 @@ pub struct Answer {
     pub truncated: bool,
 }
 
-pub fn send(code: u16, word: u16) -> Sent
-    ensures { λ r. ⌜ r ≡ sentAs code word ⌝ }
+pub fn send(code: u16, word: u16, opening: bool) -> Sent
+    ensures { λ r. ⌜ r ≡ sentAs code word opening ⌝ }
 {
     Sent {
         code,
         word,
         parity: parity_line(word),
+        opening,
     }
 }
 
-// A damage mask inverts lines.
+// A damage mask inverts lines. The mark of an opening word is none of them.
 pub fn damage(sent: Sent, mask: u16, parity: bool) -> Sent
     ensures { λ r. ⌜ r ≡ damaged sent mask parity ⌝ }
 {
@@ -39,12 +41,14 @@ pub fn damage(sent: Sent, mask: u16, parity: bool) -> Sent
             code: sent.code,
             word: sent.word ^ mask,
             parity: !sent.parity,
+            opening: sent.opening,
         };
     }
     Sent {
         code: sent.code,
         word: sent.word ^ mask,
         parity: sent.parity,
+        opening: sent.opening,
     }
 }
 

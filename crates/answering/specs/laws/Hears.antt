@@ -12,7 +12,7 @@ use Rattle.receiver.specs.declared.side.Receiver.{Receiver}
 use Rattle.silos.specs.Silo.{isEmpty, hasRoom}
 use Rattle.words.specs.Parity.{goodParity}
 use Rattle.words.specs.declared.lines.Sent.{Sent}
-use Rattle.answering.specs.Choice.{openWithAnother, mayOpen, closingFault, rejecting, truncating, decidedByCode, decided}
+use Rattle.answering.specs.Choice.{openWithAnother, reopening, mayOpen, closingFault, rejecting, truncating, decidedByCode, decided}
 use Rattle.answering.specs.Events.{opening}
 use Rattle.answering.specs.Rules.{answering, answeredAs, answeredBy}
 use Rattle.answering.specs.laws.Listening.{Listening, Ready, afterWord, afterCrc, afterDue, afterLast}
@@ -29,16 +29,19 @@ no-closing-fault r h =
     others-false (r .faults .byteCountOverflow) (r .faults .timeOut) (r .faults .parity) (r .faults .transmissionError)
     (r .faults .memoryOverflow) (r .faults .nonexistentLocation) h
 
-module _ (r : Receiver) (from : ℕ) (sent : Sent) (l : Listening r from) where
+-- what the transmitter it is open with sends, and no opening word
+module _ (r : Receiver) (from : ℕ) (sent : Sent) (l : Listening r from) (later : sent .opening ≡ false) where
   -- the code A decides
   by-code : eqb (sent .code) 0 ≡ false → decidedByCode r sent ≡ decided r from sent
   by-code some =
       let own : openWithAnother r from ≡ false = rw (l .opened, eq-eqb (r .modes .sender) from (l .sender)) in
+      let goesOn : reopening r sent ≡ false = rw (l .opened, later) in
       let notRejecting : rejecting r ≡ false = rw (l .accepting) in
       let notTruncating : truncating r sent ≡ false = rw (l .accepting) in
       past _ own
+      (past _ goesOn
       (past _ (ap not (l .opened))
-      (past _ (no-closing-fault r (l .noError)) (past _ (l .parity) (past _ some (past _ notRejecting (past _ notTruncating refl))))))
+      (past _ (no-closing-fault r (l .noError)) (past _ (l .parity) (past _ some (past _ notRejecting (past _ notTruncating refl)))))))
 
   by-rule : (rule : Rule) → eqb (sent .code) 0 ≡ false → rule ≡ decidedByCode r sent → answeredBy r from sent ≡ answeredAs r from sent rule
   by-rule rule some e = ap (answeredAs r from sent) (sym (e ∙ by-code some))
@@ -84,11 +87,12 @@ module _ (r : Receiver) (from : ℕ) (sent : Sent) (l : Listening r from) where
 -- ---- the opening
 
 module _ (r : Receiver) (from : ℕ) (ready : Ready r) where
-  -- A 10, the first word
-  pub hears-opening : (sent : Sent) → sent .code ≡ 2 → goodParity (sent .word) (sent .parity) ≡ true
+  -- A 10, the opening word
+  pub hears-opening : (sent : Sent) → sent .opening ≡ true → sent .code ≡ 2 → goodParity (sent .word) (sent .parity) ≡ true
       → answeredBy r from sent ≡ answering 3 (afterWord (opening r from) (sent .word))
-  hears-opening sent code good =
+  hears-opening sent first code good =
       let own : openWithAnother r from ≡ false = rw (ready .closed) in
-      let may : mayOpen r sent ≡ true = rw (code, ready .awaiting, ready .noError) (ready .room) in
-      let rule : Rule.Opens ≡ decided r from sent = past _ own (here _ (ap not (ready .closed)) (here _ may refl)) in
+      let fresh : reopening r sent ≡ false = rw (ready .closed) in
+      let may : mayOpen r sent ≡ true = rw (first, ready .awaiting, ready .noError) (ready .room) in
+      let rule : Rule.Opens ≡ decided r from sent = past _ own (past _ fresh (here _ (ap not (ready .closed)) (here _ may refl))) in
       ap (answeredAs r from sent) (sym rule) ∙ rw (ready .receiving, ready .noError, code, good)

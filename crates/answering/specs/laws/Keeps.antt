@@ -1,11 +1,12 @@
--- What every answer keeps: the code B is a code, who is not of the channel leaves R untouched, and R stays within the values its numbers
--- may take.
+-- What every answer keeps: the code B is a code, who is not of the channel leaves R untouched, an opening word breaks a message off, and R
+-- stays within the values its numbers may take.
 -- Assumes nothing.
-use mathlib.Core.Bool.{Bool, true, false, not, _&&_, _||_, false≢true}
-use mathlib.Core.Path.{_≡_, refl, ap, sym}
+use mathlib.Core.Bool.{Bool, true, false, not, _&&_, _||_, true≢false, false≢true}
+use mathlib.Core.Logic.{_⊎_, inl, inr}
+use mathlib.Core.Path.{_≡_, refl, ap, ap₂, sym, _∙_}
 use Prim.Native.Nat.{ℕ, _<_}
 use native.Mathlib.Omega.{arith}
-use borrow.Author.Tests.{eqb-false, not-false}
+use borrow.Author.Tests.{eq-eqb, eqb-false, not-false}
 use lib.Dec.{eqb, lit<, lit≤}
 use Rattle.ends.specs.Ends as E
 use Rattle.ends.specs.laws.EndKept.{silo-kept, shown-kept, restart-kept, count-kept}
@@ -14,17 +15,19 @@ use Rattle.receiver.specs.laws.Keeps.{within-requested}
 use Rattle.receiver.specs.Side.{Within, hasError, dataInReady, dataOutReady}
 use Rattle.receiver.specs.declared.side.Receiver.{Receiver}
 use Rattle.silos.specs.laws.Laws.{sized-put}
+use Rattle.words.specs.Lines.{answered}
 use Rattle.words.specs.laws.CodeLaws.{coded-none, coded-shown}
 use Rattle.words.specs.declared.lines.Sent.{Sent}
-use Rattle.answering.specs.Choice.{openWithAnother, mayOpen, closingFault, rejecting, truncating, decidedCrc, decidedWord, decidedByCode, decidedOpen, decided}
+use Rattle.answering.specs.Choice.{openWithAnother, reopening, mayOpen, closingFault, rejecting, truncating, decidedCrc, decidedWord, decidedByCode, decidedOpen, decided}
 use Rattle.answering.specs.Events.{showing, closed, parityFailed, transmissionFailed, rejectCompleted, succeeded, wordKept, wordStored, opening}
-use Rattle.answering.specs.Rules.{untouched, answeredAs, answeredBy}
+use Rattle.answering.specs.Rules.{untouched, brokenOff, answeredAs, answeredBy}
 use Rattle.answering.specs.declared.choice.Rule.{Rule}
 
 -- ---- the code B
 
 code-as : (r : Receiver) (from : ℕ) (sent : Sent) (rule : Rule) → answeredAs r from sent rule .answer .code < 4
 code-as r from sent Rule.Other = lit< tt
+code-as r from sent Rule.Reopened = lit< tt
 code-as r from sent Rule.Opens = lit< tt
 code-as r from sent Rule.Refuses = lit< tt
 code-as r from sent Rule.Faulted = lit< tt
@@ -55,8 +58,34 @@ module _ (r : Receiver) (from : ℕ) (sent : Sent) where
   pub refused-untouched : r .end .opened ≡ false → mayOpen r sent ≡ false → answeredBy r from sent ≡ untouched r
   refused-untouched shut refused =
       let own : openWithAnother r from ≡ false = rw shut in
-      let rule : Rule.Refuses ≡ decided r from sent = past _ own (here _ (ap not shut) (past _ refused refl)) in
+      let fresh : reopening r sent ≡ false = rw shut in
+      let rule : Rule.Refuses ≡ decided r from sent = past _ own (past _ fresh (here _ (ap not shut) (past _ refused refl))) in
       ap (answeredAs r from sent) (sym rule)
+
+  -- ---- document 02, No. 1
+
+  -- "a closed receiver answers 00 to anything but an opening word"
+  pub later-untouched : r .end .opened ≡ false → sent .opening ≡ false → answeredBy r from sent ≡ untouched r
+  later-untouched shut later = refused-untouched shut (rw later)
+
+  -- "At a receiver open with that same transmitter it sets TXM ERR, closes and gets 00", whatever else stands
+  pub opening-breaks-off : r .end .opened ≡ true → r .modes .sender ≡ from → sent .opening ≡ true → answeredBy r from sent ≡ brokenOff r sent
+  opening-breaks-off open-now same first =
+      let own : openWithAnother r from ≡ false = rw (open-now, eq-eqb (r .modes .sender) from same) in
+      let again : reopening r sent ≡ true = rw (open-now, first) in
+      let rule : Rule.Reopened ≡ decided r from sent = past _ own (here _ again refl) in
+      ap (answeredAs r from sent) (sym rule)
+
+  -- so an opening word gets 00, or 11 where R opens
+  abbrev Met : Rule → Type 0
+  Met rule = (answeredAs r from sent rule .answer ≡ answered 0) ⊎ (answeredAs r from sent rule .answer ≡ answered 3)
+
+  pub opening-answered : sent .opening ≡ true → (answeredBy r from sent .answer ≡ answered 0) ⊎ (answeredBy r from sent .answer ≡ answered 3)
+  opening-answered first =
+      either Met (openWithAnother r from) (λ e. inl refl)
+      (λ e. either Met (reopening r sent) (λ e. inl refl)
+      (λ goesOn. either Met (not (r .end .opened)) (λ e. either Met (mayOpen r sent) (λ e. inr refl) (λ e. inl refl))
+      (λ e. absurd (true≢false (sym (ap₂ _&&_ (not-false (r .end .opened) e) first) ∙ goesOn)))))
 
 -- ---- the values of the numbers
 
@@ -93,8 +122,8 @@ module _ (r : Receiver) (h : Within r) (from : ℕ) (sent : Sent) (address : fro
   kept-check-failed : Kept Rule.BadCrc
   kept-check-failed = shut (parityFailed (showing r (sent .code) 2)) (shows 2 (lit< tt)) (h .sender)
 
-  kept-off-line : Kept Rule.OffLine
-  kept-off-line = shut (transmissionFailed (showing r (sent .code) 0)) (shows 0 (lit< tt)) (h .sender)
+  kept-broken-off : Kept Rule.OffLine
+  kept-broken-off = shut (transmissionFailed (showing r (sent .code) 0)) (shows 0 (lit< tt)) (h .sender)
 
   kept-rejects : Kept Rule.Rejects
   kept-rejects = shut (rejectCompleted (showing r (sent .code) 1)) (shows 1 (lit< tt)) (h .sender)
@@ -135,10 +164,11 @@ module _ (r : Receiver) (h : Within r) (from : ℕ) (sent : Sent) (address : fro
   kept-open open-now =
       either Kept (closingFault (r .faults)) (λ e. kept-faulted)
       (λ e. either Kept (r .channel .badParity) (λ e. kept-check-failed)
-      (λ e. either Kept (eqb (sent .code) 0) (λ e. kept-off-line)
+      (λ e. either Kept (eqb (sent .code) 0) (λ e. kept-broken-off)
       (λ e. either Kept (rejecting r) (λ e. kept-rejects) (λ e. either Kept (truncating r sent) (λ e. kept-truncates open-now) (λ e. kept-by-code)))))
 
   pub within-answered : Within (answeredBy r from sent .side)
   within-answered =
       either Kept (openWithAnother r from) (λ e. h)
-      (λ e. either Kept (not (r .end .opened)) (λ e. either Kept (mayOpen r sent) (λ e. kept-opens) (λ e. h)) (λ e. kept-open (not-false (r .end .opened) e)))
+      (λ e. either Kept (reopening r sent) (λ e. kept-broken-off)
+      (λ e. either Kept (not (r .end .opened)) (λ e. either Kept (mayOpen r sent) (λ e. kept-opens) (λ e. h)) (λ e. kept-open (not-false (r .end .opened) e))))

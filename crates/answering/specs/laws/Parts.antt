@@ -16,6 +16,7 @@ use Rattle.answering.specs.declared.rules.Answered.{Answered}
 -- the answer; a message that ends was truncated, or not
 abbrev pub toldBy : Rule → Bool → Answer
 toldBy Rule.Other truncated = answered 0
+toldBy Rule.Reopened truncated = answered 0
 toldBy Rule.Opens truncated = answered 3
 toldBy Rule.Refuses truncated = answered 0
 toldBy Rule.Faulted truncated = answered 0
@@ -35,6 +36,7 @@ toldBy Rule.Null truncated = answered 1
 -- what is done: a slice that is not of its channel leaves R as it was, and in any other r is R with the codes of the slice shown
 abbrev pub doneBy : Receiver → Receiver → ℕ → Sent → Rule → Receiver
 doneBy was r from sent Rule.Other = was
+doneBy was r from sent Rule.Reopened = closed (transmissionFailed r)
 doneBy was r from sent Rule.Opens = wordStored (opening r from) sent
 doneBy was r from sent Rule.Refuses = was
 doneBy was r from sent Rule.Faulted = closed r
@@ -61,6 +63,7 @@ apart r from sent rule =
 
 pub taken-apart : (r : Receiver) (from : ℕ) (sent : Sent) (rule : Rule) → apart r from sent rule ≡ answeredAs r from sent rule
 taken-apart r from sent Rule.Other = refl
+taken-apart r from sent Rule.Reopened = refl
 taken-apart r from sent Rule.Opens = refl
 taken-apart r from sent Rule.Refuses = refl
 taken-apart r from sent Rule.Faulted = refl

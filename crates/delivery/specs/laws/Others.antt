@@ -5,7 +5,6 @@ use mathlib.Core.List.{List}
 use mathlib.Core.Path.{_≡_, refl, ap}
 use Prim.Native.Nat.{ℕ}
 use borrow.Author.Tests.{ne-eqb}
-use lib.Dec.{eqb}
 use Rattle.answering.specs.Choice.{mayOpen, openWithAnother}
 use Rattle.answering.specs.laws.Keeps.{refused-untouched}
 use Rattle.laws.specs.Pick.{either}
@@ -54,7 +53,7 @@ open-another {m} o other differs =
     rw (o .inStep .listening .opened, o .inStep .listening .sender, ne-eqb (m .from) other differs)
 
 refuses : (t : Transmitter) (r : Receiver) → Closed t r → (sent : Sent) → mayOpen r sent ≡ false
-refuses t r c sent = rw (c .notAwaiting, and-false (eqb (sent .code) 2))
+refuses t r c sent = rw (c .notAwaiting, and-false (sent .opening))
 
 module _ (m : Message) (x : Ends) (t : Transmitter) (from mask : ℕ) (parity : Bool) where
   -- after success R is left by every slice

@@ -53,7 +53,7 @@ module _ (t : Transmitter) (r : Receiver) (from : ℕ) (s : InStep t r from) whe
         word-step short some room =
             ap (λ c. exchangedAs t c r from 0 false) (sends-word t (s .talking) going free more short some)
             ∙ ap (λ x. ended t Choice.Word (answeredBy r from x)) (plain Choice.Word)
-            ∙ ap (ended t Choice.Word) (hears-word r from (sentBy t Choice.Word) (s .listening) refl (rw (s .block) short) room (parity-good (oldest (t .end .silo))))
+            ∙ ap (ended t Choice.Word) (hears-word r from (sentBy t Choice.Word) (s .listening) refl refl (rw (s .block) short) room (parity-good (oldest (t .end .silo))))
             ∙ ap (λ x. ends x (afterWord r (oldest (t .end .silo))) 2 3) (word-accepted t (s .talking))
 
         -- a due CRC is taken
@@ -62,7 +62,7 @@ module _ (t : Transmitter) (r : Receiver) (from : ℕ) (s : InStep t r from) whe
         due-step full none =
             ap (λ c. exchangedAs t c r from 0 false) (sends-due t (s .talking) going free more full)
             ∙ ap (λ x. ended t Choice.DueCrc (answeredBy r from x)) (plain Choice.DueCrc)
-            ∙ ap (ended t Choice.DueCrc) (hears-due r from (sentBy t Choice.DueCrc) (s .listening) refl (s .block ∙ full) none (sym (s .crc)))
+            ∙ ap (ended t Choice.DueCrc) (hears-due r from (sentBy t Choice.DueCrc) (s .listening) refl refl (s .block ∙ full) none (sym (s .crc)))
 
       -- the last CRC is taken
       pub last-step : allSent t ≡ true → r .channel .owed ≡ false
@@ -70,7 +70,7 @@ module _ (t : Transmitter) (r : Receiver) (from : ℕ) (s : InStep t r from) whe
       last-step all none =
           ap (λ c. exchangedAs t c r from 0 false) (sends-last t (s .talking) going free all)
           ∙ ap (λ x. ended t Choice.LastCrc (answeredBy r from x)) (plain Choice.LastCrc)
-          ∙ ap (ended t Choice.LastCrc) (hears-last r from (sentBy t Choice.LastCrc) (s .listening) refl none (sym (s .crc)))
+          ∙ ap (ended t Choice.LastCrc) (hears-last r from (sentBy t Choice.LastCrc) (s .listening) refl refl none (sym (s .crc)))
 
     -- the verdict on a due CRC: both counts restart
     pub due-verdict : t .channel .awaiting ≡ true → t .end .block ≡ 128 → r .channel .owed ≡ true → r .channel .good ≡ true
@@ -78,7 +78,7 @@ module _ (t : Transmitter) (r : Receiver) (from : ℕ) (s : InStep t r from) whe
     due-verdict waits full owed good =
         ap (λ c. exchangedAs t c r from 0 false) (sends-due-again t (s .talking) going waits)
         ∙ ap (λ x. ended t Choice.DueCrc (answeredBy r from x)) (plain Choice.DueCrc)
-        ∙ ap (ended t Choice.DueCrc) (passes-due r from (sentBy t Choice.DueCrc) (s .listening) refl (s .block ∙ full) owed good)
+        ∙ ap (ended t Choice.DueCrc) (passes-due r from (sentBy t Choice.DueCrc) (s .listening) refl refl (s .block ∙ full) owed good)
 
   -- the verdict on the last CRC, with R's silo empty: success at both ends
   pub last-verdict : t .channel .ending ≡ true → r .channel .owed ≡ true → r .channel .good ≡ true → isEmpty (r .end .silo) ≡ true
@@ -87,7 +87,7 @@ module _ (t : Transmitter) (r : Receiver) (from : ℕ) (s : InStep t r from) whe
   last-verdict ending owed good none whole =
       ap (λ c. exchangedAs t c r from 0 false) (sends-last-again t (s .talking) ending)
       ∙ ap (λ x. ended t Choice.LastCrc (answeredBy r from x)) (plain Choice.LastCrc)
-      ∙ ap (ended t Choice.LastCrc) (passes-last r from (sentBy t Choice.LastCrc) (s .listening) refl owed good none whole)
+      ∙ ap (ended t Choice.LastCrc) (passes-last r from (sentBy t Choice.LastCrc) (s .listening) refl refl owed good none whole)
 
 -- ---- and they stay in step
 
@@ -121,7 +121,7 @@ module _ (t : Transmitter) (r : Receiver) (from : ℕ) (sender : T.Ready t) (rea
   opening-step =
       ap (λ c. exchangedAs t c r from 0 false) (sends-opening t sender)
       ∙ ap (λ x. ended t Choice.Opening (answeredBy r from x)) (undamaged (sentBy t Choice.Opening))
-      ∙ ap (ended t Choice.Opening) (hears-opening r from ready (sentBy t Choice.Opening) refl (parity-good (oldest (t .end .silo))))
+      ∙ ap (ended t Choice.Opening) (hears-opening r from ready (sentBy t Choice.Opening) refl refl (parity-good (oldest (t .end .silo))))
       ∙ ap (λ x. ends x (afterWord (listeningTo r from) (oldest (t .end .silo))) 2 3) (opening-accepted t sender)
 
   pub in-step-opened : InStep (settled (counted (talkingTo (showing t 2 3)))) (afterWord (listeningTo r from) (oldest (t .end .silo))) from

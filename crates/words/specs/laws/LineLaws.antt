@@ -1,4 +1,4 @@
--- Laws of the lines: the parity bit is good, and no mask does no damage.
+-- Laws of the lines: the parity bit is good, no mask does no damage, and none changes the code A or the mark of an opening word.
 -- Assumes nothing.
 use mathlib.Core.Path.{_≡_, refl}
 use mathlib.Core.Bool.{Bool, true, false}
@@ -8,6 +8,7 @@ use borrow.Author.Tests.{eq-eqb, eqb-true, eqb-false}
 use lib.Bits.{xor-zero-r}
 use lib.Count.{ones}
 use lib.Dec.{lit≤}
+use Rattle.laws.specs.Pick.{either}
 use Rattle.words.specs.Lines.{damaged}
 use Rattle.words.specs.Parity.{line, onesOf, goodParity, parityOf}
 use Rattle.words.specs.declared.lines.Sent.{Sent}
@@ -27,3 +28,11 @@ parity-good w = go (parityOf w) refl
 -- no mask, no damage
 pub undamaged : (s : Sent) → damaged s 0 false ≡ s
 undamaged s = rw (xor-zero-r (s .word))
+
+-- whatever is damaged, A stays, an opening word is marked, and nothing else is
+module _ (s : Sent) (mask : ℕ) (parity : Bool) where
+  pub code-stays : damaged s mask parity .code ≡ s .code
+  code-stays = either (λ (x : Sent). x .code ≡ s .code) parity (λ e. refl) (λ e. refl)
+
+  pub mark-stays : damaged s mask parity .opening ≡ s .opening
+  mark-stays = either (λ (x : Sent). x .opening ≡ s .opening) parity (λ e. refl) (λ e. refl)

@@ -1,0 +1,5 @@
+pub mod Channels
+pub mod Example
+pub mod History
+pub mod Statement
+pub mod laws

@@ -1,0 +1,10 @@
+pub mod Answers
+pub mod Begins
+pub mod Events
+pub mod Exchanges
+pub mod Hearings
+pub mod Quiet
+pub mod Runs
+pub mod SliceEvents
+pub mod Steps
+pub mod Still
