@@ -1,14 +1,6 @@
 pub mod Faults
 pub mod Heads
 pub mod IdleLaws
-pub mod Kept
-pub mod Listeners
-pub mod MayMove
-pub mod Moved
 pub mod PartLaws
-pub mod PlainMoves
 pub mod Shifts
-pub mod Sides
-pub mod Steps
-pub mod Talkers
 pub mod TurnLaws

@@ -1,10 +1,5 @@
-// The plain cases of slices and moves in place: on the lent cells, with no side made a record. Which are plain, nothing rests on: whatever
-// these functions do not take goes by the records.
-mod halves;
+// What is plain of a slice before anything is carried, in place: on the lent cells, with no side made a record. Which cases are plain,
+// nothing rests on: whatever these functions do not take goes by the records.
 pub mod idle;
-mod in_step;
-pub mod moving;
-mod silo;
-pub mod slice;
+pub mod silo;
 pub mod turn;
-mod windows;

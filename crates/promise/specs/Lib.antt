@@ -1,8 +1,5 @@
 pub mod Conditions
 pub mod Demand3
-pub mod Example
-pub mod ExampleRun
-pub mod ExampleTwo
 pub mod Kinds
 pub mod Opening
 pub mod Reports

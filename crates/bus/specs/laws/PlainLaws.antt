@@ -11,7 +11,7 @@ use lib.Dec.{ltb}
 use Rattle.cells.specs.Fitted.{Fitted}
 use Rattle.cells.specs.Layout.{transmitterPlace, receiverPlace}
 use Rattle.laws.specs.Pick.{by, past}
-use Rattle.plain.specs.Carried.{Placed, Carried}
+use Rattle.plain_slices.specs.Carried.{Placed, Carried}
 use Rattle.words.specs.declared.codes.Codes.{Codes}
 use Rattle.bus.specs.Slice.{heardBy}
 

@@ -7,7 +7,7 @@ use Prim.Native.Nat.{ℕ}
 use Rattle.cells.specs.Fitted.{receiverOf}
 use Rattle.cells.specs.Layout.{memoryLength}
 use Rattle.laws.specs.Pick.{past, here}
-use Rattle.plain.specs.Moving.{receiverStored}
+use Rattle.plain_moves.specs.Moving.{receiverStored}
 use Rattle.receiver.specs.Moves as R
 use Rattle.words.specs.declared.answers.Move.{Move}
 use Rattle.moves.specs.Moving.{receiverMovedBy}

@@ -5,7 +5,7 @@ use mathlib.Core.Path.{refl, ap, sym}
 use Rattle.cells.specs.Fitted.{transmitterOf}
 use Rattle.cells.specs.Layout.{memoryLength}
 use Rattle.laws.specs.Pick.{past, here}
-use Rattle.plain.specs.Moving.{transmitterLoaded}
+use Rattle.plain_moves.specs.Moving.{transmitterLoaded}
 use Rattle.words.specs.declared.answers.Move.{Move}
 use Rattle.moves.specs.laws.Nothing.{transmitter-done}
 use Rattle.moves.proofs.moving.move_transmitter.Statement.{statement}

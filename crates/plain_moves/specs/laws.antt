@@ -1,0 +1,4 @@
+pub mod MayMove
+pub mod Moved
+pub mod PlainMoves
+pub mod Sides

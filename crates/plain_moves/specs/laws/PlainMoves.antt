@@ -1,0 +1,180 @@
+-- A plain move on the lent cells: three cells of the head and the silo's are changed, and they are the cells of the side that the rule gives.
+-- Assumes nothing.
+use mathlib.Core.Bool.{Bool, true, false, not, _&&_, _||_}
+use mathlib.Core.Path.{_≡_, refl, ap, sym, _∙_}
+use mathlib.Core.List.{List, _++_}
+use Prim.Native.Nat.{ℕ, _+_, _-_, _/_, _%_, _^_, _≤_, _<_}
+use native.Mathlib.Omega.{arith}
+use borrow.Author.Tests.{ltb-true, eqb-true, eqb-false, eq-eqb, ne-eqb, not-true}
+use lib.Dec.{eqb, ltb, lit<}
+use lib.ListN.{length, getD, set, length-set, length-append, length-drop}
+use Rattle.codec.specs.Receivers.{encReceiver, decReceiver, receiverAt}
+use Rattle.codec.specs.Transmitters.{encTransmitter, decTransmitter, transmitterAt}
+use Rattle.codec.specs.Window.{cell, window, splice}
+use Rattle.codec.specs.laws.WindowLaws.{length-window, cell-window}
+use Rattle.laws.specs.Bits.{bit, bits, bitAt}
+use Rattle.laws.specs.Pick.{by}
+use Rattle.laws.specs.laws.Both.{left-of, right-of}
+use Rattle.receiver.specs.Moves as R
+use Rattle.receiver.specs.declared.moves.Moved as RM
+use Rattle.silos.specs.Cells.{shifted}
+use Rattle.transmitter.specs.Moves as T
+use Rattle.plain_moves.specs.Moving.{Plain, wordAt, headMoved}
+use Rattle.plain.specs.laws.Heads.{head-and-silo}
+use Rattle.plain_moves.specs.laws.MayMove.{may-out, may-in}
+use Rattle.plain_moves.specs.laws.Moved.{oneMore, oneFewer, transmitter-moved, receiver-moved}
+use Rattle.plain_moves.specs.laws.Sides.{side, Normal, transmitter-kept, receiver-kept}
+
+-- ---- what the test says
+
+counts : (clear mark busy : Bool) → (clear ≡ true → mark ≡ false) → clear || busy ≡ true → mark && busy ≡ mark
+counts true mark busy f e = rw (f refl)
+counts false true true f e = refl
+counts false true false f e = e
+counts false false busy f e = refl
+
+pub plain-says : (block own limit low count control : ℕ) (busy : Bool)
+    → ltb block 129 && ltb own limit && ltb low 32767 && ltb count 32767 && eqb (bits control 1 2) 1 && (eqb (bits control 3 1) 0 || busy) ≡ true
+    → Plain block own limit low count control busy
+plain-says block own limit low count control busy ok =
+    let a = ltb block 129 in
+    let b = ltb own limit in
+    let c = ltb low 32767 in
+    let d = ltb count 32767 in
+    let e = eqb (bits control 1 2) 1 in
+    let f = eqb (bits control 3 1) 0 || busy in
+    let abcde = left-of (a && b && c && d && e) f ok in
+    let abcd = left-of (a && b && c && d) e abcde in
+    let abc = left-of (a && b && c) d abcd in
+    let ab = left-of (a && b) c abc in
+    let two : bits control 1 2 ≡ 1 = eqb-true (bits control 1 2) 1 (right-of (a && b && c && d) e abcde) in
+    record {
+      since = omega (arith, ltb-true block 129 (left-of a b ab));
+      single = ltb-true own limit (right-of a b ab);
+      low15 = ltb-true low 32767 (right-of (a && b) c abc);
+      count15 = ltb-true count 32767 (right-of (a && b && c) d abcd);
+      loaded = eq-eqb (bits control 1 1) 1 (omega arith);
+      goes = ne-eqb (bits control 2 1) 1 (omega arith);
+      marked = counts (eqb (bits control 3 1) 0) (bitAt control 3) busy (λ z. ne-eqb (bits control 3 1) 1 (omega (arith, eqb-true (bits control 3 1) 0 z))) (right-of (a && b && c && d && e) f ok);
+    }
+
+same-pair : {a a' b b' : List ℕ} → a ≡ a' → b ≡ b' → _≡_ {A = List ℕ × List ℕ} (a, b) (a', b')
+same-pair a b = rw (a, b)
+
+-- ---- over numbers
+
+module _ (held block own low count control status crc : ℕ) (silo : List ℕ) where
+  abbrev before : List ℕ
+  before = side held block own low count control status crc silo
+
+  -- of what may move
+  out-says : T.mayMove (decTransmitter before) ≡ true → (bitAt control 14 ≡ true) × (held < 64)
+  out-says may =
+      let a = bitAt control 14 in
+      let b = bitAt control 1 in
+      let c = eqb (bits status 9 6) 0 in
+      let d = ltb held 64 in
+      let e = not (bitAt control 7) in
+      let f = not (bitAt status 8 && bitAt status 6) in
+      let abcd = left-of (a && b && c && d) e (left-of (a && b && c && d && e) f (may-out held block own low count control status crc silo ∙ may)) in
+      (left-of a b (left-of (a && b) c (left-of (a && b && c) d abcd)), ltb-true held 64 (right-of (a && b && c) d abcd))
+
+  in-says : R.mayMove (decReceiver before) ≡ true → 1 ≤ held
+  in-says may =
+      let a = bitAt control 14 in
+      let b = not (eqb held 0) in
+      let c = eqb (bits status 9 6) 0 in
+      let ab = left-of (a && b) c (may-in held block own low count control status crc silo ∙ may) in
+      let some : held ≡ 0 → ⊥ = eqb-false held 0 (not-true (eqb held 0) (right-of a b ab)) in
+      omega arith
+
+  module _ (control16 : control < 2 ^ 16) (status16 : status < 2 ^ 16) (crc16 : crc < 2 ^ 16) (cells64 : length silo ≡ 64) (memory : List ℕ) (fitted : ℕ)
+      (there : wordAt low control < fitted) where
+    pub out-moved : Plain block own 32 low count control (bitAt control 13 || bitAt status 6) → (status / 2 ^ 8 % 2 ≡ 1 → ⊥) → status < 2 ^ 15
+        → T.mayMove (decTransmitter before) ≡ true
+        → encTransmitter (T.moved (decTransmitter before) memory fitted .side)
+        ≡ oneMore held block own low count control status crc silo (getD memory (wordAt low control) 0)
+    out-moved p going settled may =
+        let room = out-says may .1 in
+        let word = getD memory (wordAt low control) 0 in
+        let e : bitAt status 8 ≡ false = ne-eqb (bits status 8 1) 1 going in
+        let a : bitAt status 15 ≡ false = ne-eqb (bits status 15 1) 1 (omega arith) in
+        ap encTransmitter (transmitter-moved held block own low count control status crc silo cells64 (p .low15) (p .count15) (p .loaded) (p .goes) memory fitted there may (out-says may .0) room)
+        ∙ transmitter-kept (held + 1) block own (low + 1) (count + 1) control status crc (set silo held word)
+        (record { most = omega arith; since = p .since; low15 = omega arith; count15 = omega arith; control16 = control16; status16 = status16; crc16 = crc16; cells64 = length-set silo held word ∙ cells64 })
+        (p .single) (p .marked) (rw e) (rw a)
+
+    pub in-moved : Plain block own 1 low count control (bitAt status 4) → held ≤ 64 → R.mayMove (decReceiver before) ≡ true
+        → R.moved (decReceiver before) memory fitted ≡ (R.doneWith (decReceiver (oneFewer held block own low count control status crc silo)), set memory (wordAt low control) (getD silo 0 0))
+    in-moved p most may =
+        receiver-moved held block own low count control status crc silo cells64 (p .low15) (p .count15) (p .loaded) (p .goes) memory fitted there may (in-says may) most
+
+    pub in-kept : Plain block own 1 low count control (bitAt status 4) → held ≤ 64
+        → encReceiver (decReceiver (oneFewer held block own low count control status crc silo)) ≡ oneFewer held block own low count control status crc silo
+    in-kept p most =
+        let none : own ≡ 0 = omega arith in
+        receiver-kept (held - 1) block own (low + 1) (count + 1) control status crc (shifted silo)
+        (record { most = omega arith; since = p .since; low15 = omega arith; count15 = omega arith; control16 = control16; status16 = status16; crc16 = crc16; cells64 = simp (length-append, length-drop) (omega arith) })
+        (rw none) (p .marked)
+
+-- ---- at a place of the cells
+
+module _ (cells : List ℕ) (at : ℕ) (fits : at + 72 ≤ length cells) where
+  abbrev held : ℕ
+  held = cell cells at
+
+  abbrev low : ℕ
+  low = cell cells (at + 3)
+
+  abbrev control : ℕ
+  control = cell cells (at + 5)
+
+  abbrev status : ℕ
+  status = cell cells (at + 6)
+
+  abbrev silo : List ℕ
+  silo = window cells (at + 8) 64
+
+  cells64 : length silo ≡ 64
+  cells64 = length-window cells (at + 8) 64 (omega arith)
+
+  -- a transmitter that may move has room
+  pub out-room : T.mayMove (transmitterAt cells at) ≡ true → held < 64
+  out-room may =
+      out-says held (cell cells (at + 1)) (cell cells (at + 2)) low (cell cells (at + 4)) control status (cell cells (at + 7)) silo
+      (ap (λ (w : List ℕ). T.mayMove (decTransmitter w)) (sym (head-and-silo cells at fits)) ∙ may) .1
+
+  -- a receiver that may move has a word
+  pub in-some : R.mayMove (receiverAt cells at) ≡ true → 1 ≤ held
+  in-some may =
+      in-says held (cell cells (at + 1)) (cell cells (at + 2)) low (cell cells (at + 4)) control status (cell cells (at + 7)) silo
+      (ap (λ (w : List ℕ). R.mayMove (decReceiver w)) (sym (head-and-silo cells at fits)) ∙ may)
+
+  module _ (words : (i : ℕ) → cell cells i < 2 ^ 16) (memory : List ℕ) (fitted : ℕ) (there : wordAt low control < fitted) where
+    pub out-plain : Plain (cell cells (at + 1)) (cell cells (at + 2)) 32 low (cell cells (at + 4)) control (bitAt control 13 || bitAt status 6)
+        → (status / 2 ^ 8 % 2 ≡ 1 → ⊥) → status < 2 ^ 15 → T.mayMove (transmitterAt cells at) ≡ true
+        → encTransmitter (T.moved (transmitterAt cells at) memory fitted .side) ≡ headMoved cells at (held + 1) ++ set silo held (getD memory (wordAt low control) 0)
+    out-plain p going settled may =
+        let same = head-and-silo cells at fits in
+        ap (λ (w : List ℕ). encTransmitter (T.moved (decTransmitter w) memory fitted .side)) same
+        ∙ out-moved held (cell cells (at + 1)) (cell cells (at + 2)) low (cell cells (at + 4)) control status (cell cells (at + 7)) silo
+        (words (at + 5)) (words (at + 6)) (words (at + 7)) cells64 memory fitted there p going settled
+        (ap (λ (w : List ℕ). T.mayMove (decTransmitter w)) (sym same) ∙ may)
+
+    pub in-plain : Plain (cell cells (at + 1)) (cell cells (at + 2)) 1 low (cell cells (at + 4)) control (bitAt status 4)
+        → held ≤ 64 → R.mayMove (receiverAt cells at) ≡ true
+        → _≡_ {A = List ℕ × List ℕ} (encReceiver (R.moved (receiverAt cells at) memory fitted .0 .side), R.moved (receiverAt cells at) memory fitted .1)
+        (headMoved cells at (held - 1) ++ shifted silo, set memory (wordAt low control) (cell cells (at + 8)))
+    in-plain p most may =
+        let same = head-and-silo cells at fits in
+        let z : at + 8 + 0 ≡ at + 8 = omega arith in
+        let first : getD silo 0 0 ≡ cell cells (at + 8) = cell-window cells (at + 8) 64 0 (lit< tt) ∙ ap (cell cells) z in
+        let moved =
+        in-moved held (cell cells (at + 1)) (cell cells (at + 2)) low (cell cells (at + 4)) control status (cell cells (at + 7)) silo
+        (words (at + 5)) (words (at + 6)) (words (at + 7)) cells64 memory fitted there p most (ap (λ (w : List ℕ). R.mayMove (decReceiver w)) (sym same) ∙ may) in
+        let kept =
+        in-kept held (cell cells (at + 1)) (cell cells (at + 2)) low (cell cells (at + 4)) control status (cell cells (at + 7)) silo
+        (words (at + 5)) (words (at + 6)) (words (at + 7)) cells64 memory fitted there p most in
+        ap (λ (w : List ℕ). (encReceiver (R.moved (decReceiver w) memory fitted .0 .side), R.moved (decReceiver w) memory fitted .1)) same
+        ∙ ap (λ (m : RM.Moved × List ℕ). (encReceiver (m .0 .side), m .1)) moved
+        ∙ same-pair kept (ap (set memory (wordAt low control)) first)

@@ -1,0 +1,4 @@
+pub mod Kept
+pub mod Listeners
+pub mod Steps
+pub mod Talkers
