@@ -2,7 +2,7 @@
 -- Assumes nothing.
 use mathlib.Core.Bool.{true, false}
 use mathlib.Core.Path.{_≡_}
-use Prim.Native.Nat.{_+_, _≤_}
+use Prim.Native.Nat.{_+_, _*_, _≤_}
 use lib.ListN.{length}
 use Rattle.receiver.specs.Side as R
 use Rattle.transmitter.specs.Side as T
@@ -33,3 +33,5 @@ pub record Delivered (m : Message) (x : Ends) : Type 0 where
   pub noErrorThere : R.hasError (x .receiver) ≡ false
   pub inside : m .target + length (m .content) ≤ length (m .before)
   pub memory : x .receiving ≡ written (m .before) (m .target) (m .content)
+  -- and R's load stands behind the last of them, at a byte address
+  pub place : x .receiver .end .load .address .0 ≡ (m .target + length (m .content)) * 2

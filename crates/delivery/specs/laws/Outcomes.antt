@@ -3,7 +3,7 @@
 use mathlib.Core.Bool.{Bool}
 use mathlib.Core.List.{List, _++_}
 use mathlib.Core.Path.{_≡_, refl, ap, _∙_}
-use Prim.Native.Nat.{ℕ, _+_, _-_}
+use Prim.Native.Nat.{ℕ, _+_, _-_, _*_}
 use native.Mathlib.Omega.{arith}
 use borrow.Author.Tests.{eqb-true}
 use lib.ListN.{length, take, drop}
@@ -56,4 +56,5 @@ module _ (m : Message) (x : Ends) where
             k .inMemory
             ∙ ap (paste (m .before) (m .target) (m .content)) all
             ∙ ap (λ (l : List ℕ). take (m .target) (m .before) ++ l ++ drop (m .target + n) (m .before)) (take-length (m .content));
+        place = k .place ∙ ap (λ (i : ℕ). (m .target + i) * 2) all;
       }

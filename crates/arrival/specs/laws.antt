@@ -1,0 +1,6 @@
+pub mod Given
+pub mod Loads
+pub mod Outcomes
+pub mod Reads
+pub mod Received
+pub mod Words

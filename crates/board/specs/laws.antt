@@ -1,0 +1,9 @@
+pub mod BuildLaws
+pub mod InverseLaws
+pub mod MessageLaws
+pub mod Packed
+pub mod Placing
+pub mod ReadLaws
+pub mod ReceiveLaws
+pub mod ReceivedLaws
+pub mod Tests

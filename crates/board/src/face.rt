@@ -1,0 +1,118 @@
+// The calls as C has them: plain numbers and slices, and an answer's number with its value above it.
+use crate::answers::Built;
+use crate::answers::Read;
+use crate::answers::ReadCall;
+use crate::answers::ReceiveCall;
+use crate::building::build;
+use crate::reading::count_of;
+use crate::reading::read_numbers;
+use crate::receiving::receive;
+ghost use mathlib.Core.Path.{_≡_};
+ghost use Rattle.board.specs.Contracts.{ReadFaceOutcome, BuildFaceOutcome, ReceiveFaceOutcome};
+ghost use Rattle.board.specs.Numbers.{readNumber, readCallPacked, receivePacked, builtNumber, builtPacked};
+ghost use Rattle.pcl.specs.Numbers.{readCallNumber};
+ghost use Rattle.words.specs.Answers as Words;
+
+fn number_read(read: Read) -> u32
+    ensures { λ r. ⌜ r ≡ readNumber read ⌝ }
+{
+    match read {
+        Read::NotComplete => 1,
+        Read::WrongLength => 2,
+        Read::UnknownKind => 3,
+        Read::WrongCount => 4,
+        Read::Readings(_) => 0,
+    }
+}
+
+fn pack_read(call: ReadCall) -> u32
+    ensures { λ r. ⌜ r ≡ readCallPacked call ⌝ }
+{
+    let ReadCall::Message(read) = call else {
+        return 9;
+    };
+    let Read::Readings(view) = read else {
+        return number_read(read);
+    };
+    count_of(view) as u32 * 65536
+}
+
+fn number_register(read: words::answers::Read) -> u32
+    ensures { λ r. ⌜ r ≡ Words.readNumber read ⌝ }
+{
+    match read {
+        words::answers::Read::Word(_) => 0,
+        words::answers::Read::NoRegister => 2,
+        words::answers::Read::Nothing => 4,
+    }
+}
+
+// A refusal of the link, by its own number.
+fn number_refused(refusal: pcl::answers::ReadCall) -> u32
+    ensures { λ r. ⌜ r ≡ readCallNumber refusal ⌝ }
+{
+    match refusal {
+        pcl::answers::ReadCall::BadState => 9,
+        pcl::answers::ReadCall::NoUnit => 1,
+        pcl::answers::ReadCall::Register(read) => number_register(read),
+    }
+}
+
+fn pack_receive(call: ReceiveCall) -> u32
+    ensures { λ r. ⌜ r ≡ receivePacked call ⌝ }
+{
+    match call {
+        ReceiveCall::NoRoom => 9,
+        ReceiveCall::Link(refusal) => number_refused(refusal) + 16,
+        ReceiveCall::Message(read) => pack_read(ReadCall::Message(read)),
+    }
+}
+
+fn number_built(built: Built) -> u32
+    ensures { λ r. ⌜ r ≡ builtNumber built ⌝ }
+{
+    match built {
+        Built::UnknownKind => 3,
+        Built::NoRoom => 9,
+        Built::WrongCount => 4,
+        Built::ReservedValue => 7,
+        Built::Words(_) => 0,
+    }
+}
+
+fn pack_built(built: Built) -> u32
+    ensures { λ r. ⌜ r ≡ builtPacked built ⌝ }
+{
+    let Built::Words(words) = built else {
+        return number_built(built);
+    };
+    words as u32 * 65536
+}
+
+#[no_mangle]
+pub extern "C" fn board_build(kind: u32, readings: &[u32], message: &mut [u16]) -> u32
+    ensures { λ r. ⌜ BuildFaceOutcome kind (now (readings .entry)) (now (message .entry)) (r, now (message .exit)) ⌝ }
+{
+    pack_built(build(kind, readings, message))
+}
+
+#[no_mangle]
+pub extern "C" fn board_read(kind: u32, complete: u32, message: &[u16], readings: &mut [u32]) -> u32
+    ensures { λ r. ⌜ ReadFaceOutcome kind complete (now (message .entry)) (now (readings .entry)) (r, now (readings .exit)) ⌝ }
+{
+    pack_read(read_numbers(kind, complete != 0, message, readings))
+}
+
+#[no_mangle]
+pub extern "C" fn board_receive(
+    kind: u32,
+    cells: &mut [u16],
+    memory: &[u16],
+    unit: u32,
+    first: u32,
+    readings: &mut [u32],
+) -> u32
+    ensures { λ r. ⌜ ReceiveFaceOutcome kind (now (cells .entry)) (now (memory .entry)) unit first (now (readings .entry)) (r, now (cells .exit), now (readings .exit)) ⌝ }
+{
+    pack_receive(receive(kind, cells, memory, unit, first, readings))
+}

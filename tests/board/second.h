@@ -1,0 +1,18 @@
+/* second.h - a second implementation of document 02's readings board, No. 2.
+ * Answers and arguments are those of include/board.h. */
+#ifndef SECOND_BOARD_H
+#define SECOND_BOARD_H
+
+#include <stddef.h>
+#include <stdint.h>
+
+uint32_t second_board_build(uint32_t kind, const uint32_t *readings, size_t readings_length, uint16_t *message, size_t message_length);
+uint32_t second_board_read(uint32_t kind, uint32_t complete, const uint16_t *message, size_t message_length, uint32_t *readings, size_t readings_length);
+
+/* The link that a message is received from: a host's word read of a register. It answers number + 65536 * word. */
+typedef uint32_t second_board_link(void *link, uint32_t unit, uint32_t offset);
+
+uint32_t second_board_receive(uint32_t kind, second_board_link *read, void *link, const uint16_t *memory, size_t memory_length, uint32_t unit,
+                              uint32_t first, uint32_t *readings, size_t readings_length);
+
+#endif
