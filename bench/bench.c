@@ -39,23 +39,23 @@ static uint32_t archive_fit(const uint32_t *setup, size_t length) { return pcl_f
 static uint32_t archive_write(uint32_t u, uint32_t o, uint16_t w) { return pcl_write(cells, PCL_CELLS_MOST, u, o, w); }
 static uint32_t archive_write_byte(uint32_t u, uint32_t o, uint8_t b) { return pcl_write_byte(cells, PCL_CELLS_MOST, u, o, b); }
 static uint32_t archive_slice(void) { return pcl_slice(cells, PCL_CELLS_MOST, 0, 0); }
-static uint32_t archive_move(uint32_t u, uint32_t s) { return pcl_move(cells, PCL_CELLS_MOST, memory[u], PCL_MEMORY_MOST, u, s); }
+static uint64_t archive_move(uint32_t u, uint32_t s) { return pcl_move(cells, PCL_CELLS_MOST, memory[u], PCL_MEMORY_MOST, u, s); }
 
 static uint32_t plain_fit(const uint32_t *setup, size_t length) { return second_fit(&l, setup, length); }
 static uint32_t plain_write(uint32_t u, uint32_t o, uint16_t w) { return second_write(&l, u, o, w); }
 static uint32_t plain_write_byte(uint32_t u, uint32_t o, uint8_t b) { return second_write_byte(&l, u, o, b); }
 static uint32_t plain_slice(void) { return second_slice(&l, 0, 0); }
-static uint32_t plain_move(uint32_t u, uint32_t s) { return second_move(&l, u, s, memory[u], PCL_MEMORY_MOST); }
+static uint64_t plain_move(uint32_t u, uint32_t s) { return second_move(&l, u, s, memory[u], PCL_MEMORY_MOST); }
 
 /* The archive's calls again, and how many of them go the plain way. The answer of such a call is known before. */
 static struct count { uint32_t all, plain; } slices, moves;
 
-static uint32_t count_call(struct count *count, struct way way, uint32_t answer)
+static uint64_t count_call(struct count *count, struct way way, uint64_t answer)
 {
     count->all++;
     count->plain += way.plain;
     if (way.plain && answer != way.answer)
-        fail("a plain call has another answer", answer);
+        fail("a plain call has another answer", (uint32_t)answer);
     return answer;
 }
 
@@ -63,10 +63,10 @@ static uint32_t counted_slice(void)
 {
     struct way way = slice_way(cells);
 
-    return count_call(&slices, way, archive_slice());
+    return (uint32_t)count_call(&slices, way, archive_slice());
 }
 
-static uint32_t counted_move(uint32_t u, uint32_t s)
+static uint64_t counted_move(uint32_t u, uint32_t s)
 {
     struct way way = move_way(cells, u, s);
 
@@ -78,7 +78,7 @@ static const struct library {
     uint32_t (*write)(uint32_t unit, uint32_t offset, uint16_t word);
     uint32_t (*write_byte)(uint32_t unit, uint32_t offset, uint8_t byte);
     uint32_t (*slice)(void);
-    uint32_t (*move)(uint32_t unit, uint32_t side);
+    uint64_t (*move)(uint32_t unit, uint32_t side);
 } archive = { archive_fit, archive_write, archive_write_byte, archive_slice, archive_move },
   counted = { archive_fit, archive_write, archive_write_byte, counted_slice, counted_move },
   plain = { plain_fit, plain_write, plain_write_byte, plain_slice, plain_move };

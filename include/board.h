@@ -1,5 +1,6 @@
 /* board.h - the readings board for C and C++: messages of sensor readings,
- * built, read, and received from the link of pcl.h.
+ * built, read, and received from the link of pcl.h; and the words of one collected
+ * into a memory.
  *
  * A message is a row of 16-bit words: its length in words (itself included), its
  * kind, the count of sensors, 1 to BOARD_SENSORS_MOST, and then a word for each
@@ -20,9 +21,9 @@
  *
  * What comes back. Every call takes every argument, ends, and answers a number
  * with a value above it; board_number() and board_value() take an answer apart.
- * A number other than BOARD_DONE is a refusal: its value is 0, and it has changed
- * no word of a message and no reading. Where several refusals fit, the first in
- * the order that stands with the call is answered. */
+ * A number other than BOARD_DONE and BOARD_MISSING is a refusal: its value is 0,
+ * and it has changed no word of a message and no reading. Where several refusals
+ * fit, the first in the order that stands with the call is answered. */
 #ifndef BOARD_H
 #define BOARD_H
 
@@ -41,9 +42,11 @@ enum {
     BOARD_UNKNOWN_KIND = 3,     /* the message is not of the reader's kind, or there is no such kind */
     BOARD_WRONG_COUNT = 4,      /* the sensor count is outside 1 to 64, or the length is not the count and 3 */
     BOARD_RESERVED_VALUE = 7,   /* a value of 177777 octal, which a message can't carry */
+    BOARD_MISSING = 8,          /* an address outside the memory stopped it; the value is that address */
     BOARD_BAD_ROOM = 9,         /* too little room lent */
-    BOARD_LINK = 16             /* plus a number of pcl.h, with which the link refused a register read: 17, PCL_NOT_FITTED, the
-                                 * unit is not fitted; 25, PCL_BAD_ROOM, too few cells or a header out of range. No others */
+    BOARD_LINK = 16             /* plus a number of pcl.h, with which the link refused a register read or a move: 17, PCL_NOT_FITTED,
+                                 * the unit is not fitted; 25, PCL_BAD_ROOM, too few cells, a header out of range, or at
+                                 * board_collect a memory shorter than the fitted one. No others */
 };
 
 /* The kind of a message. */
@@ -57,9 +60,14 @@ enum {
 #define BOARD_WORDS(sensors) (3 + (size_t)(sensors))
 #define BOARD_WORDS_MOST BOARD_WORDS(BOARD_SENSORS_MOST)
 
-/* An answer taken apart. */
-static inline unsigned board_number(uint32_t answer) { return answer & 0xFFFF; }
-static inline unsigned board_value(uint32_t answer) { return answer >> 16; }
+/* An answer taken apart. board_collect answers 64 bits, since an address has 18;
+ * an answer of 32 bits is taken too. */
+static inline unsigned board_number(uint64_t answer) { return (unsigned)(answer & 0xFFFF); }
+static inline unsigned board_value(uint64_t answer) { return (unsigned)(answer >> 16); }
+
+/* The byte address outside the memory that stopped a board_collect, 18 bits and
+ * even. 0 where none did: address 0 lies inside every memory. */
+static inline uint32_t board_missing(uint64_t answer) { return board_number(answer) == BOARD_MISSING ? board_value(answer) : 0; }
 
 /* Builds the message of the readings, one for each sensor. A reading above
  * BOARD_ABSENT is none too. BOARD_WORDS_MOST words of room are asked, whatever
@@ -99,6 +107,26 @@ uint32_t board_read(uint32_t kind, uint32_t complete, const uint16_t *message, s
  *
  * Answers 0 with the count of sensors; 9; 25, 17; 1, 2, 3, 4, in this order. */
 uint32_t board_receive(uint32_t kind, uint16_t *cells, size_t cells_length, const uint16_t *memory, size_t memory_length, uint32_t unit, uint32_t first, uint32_t *readings, size_t readings_length);
+
+/* Collects the words that a unit's receiver holds: makes moves at that side, as
+ * pcl_move does, until one is answered PCL_NOTHING, 65 at most (a silo has 64
+ * words). Whatever it answers, cells and memory are left as these moves leave them:
+ * words that were moved stand in the memory.
+ *
+ * 0: nothing more is to be moved. The value is how many moves were answered 0; each
+ * stored a word, but for one that met BC OFL, which is the last of them, is counted,
+ * and leaves its word in the silo. Nothing more to move may be for an error: RSR
+ * tells, and so it does at a memory overflow. A message is complete when
+ * board_receive says so.
+ * 8: an address outside the memory stopped it. The value is the byte address that
+ * was tried, RDBA with EA17 and EA16 above it, which stay there; the word that met
+ * it stays in the silo, and NXL is set. The words before it stand in the memory.
+ * Until the host clears NXL a further call answers 0 with value 0.
+ * 25, 17, in this order: nothing was moved, and nothing is changed. The memory has
+ * the fitted length of the unit, or more; what stands past that is left alone.
+ *
+ * Answers 0 with the moves; 8 with the address; 25, 17. */
+uint64_t board_collect(uint16_t *cells, size_t cells_length, uint16_t *memory, size_t memory_length, uint32_t unit);
 
 #ifdef __cplusplus
 }

@@ -90,13 +90,21 @@ enum {
 };
 
 /* An answer taken apart. The value is 0 but with PCL_DONE from pcl_read (the
- * word), pcl_level (0 or 1) and pcl_slice (the address served, and the response
- * codes A and B, 0 to 3). */
-static inline unsigned pcl_number(uint32_t answer) { return answer & 0xFFFF; }
-static inline unsigned pcl_value(uint32_t answer) { return answer >> 16; }
+ * word), pcl_level (0 or 1), pcl_slice (the address served, and the response
+ * codes A and B, 0 to 3) and pcl_move (the address that was missing). A move
+ * answers 64 bits, since an address has 18; an answer of 32 bits is taken too.
+ * Keep a move's answer in 64 bits, and compare pcl_number(answer), not the
+ * answer, with a number: PCL_DONE has a value where the move set NXL. */
+static inline unsigned pcl_number(uint64_t answer) { return (unsigned)(answer & 0xFFFF); }
+static inline unsigned pcl_value(uint64_t answer) { return (unsigned)(answer >> 16); }
 static inline unsigned pcl_address(uint32_t answer) { return pcl_value(answer) & 31; }
 static inline unsigned pcl_a(uint32_t answer) { return pcl_value(answer) >> 5 & 3; }
 static inline unsigned pcl_b(uint32_t answer) { return pcl_value(answer) >> 7 & 3; }
+
+/* The byte address that a pcl_move tried, where that call set NXL: TSBA or RDBA
+ * with EA17 and EA16 above it, as they still stand, 18 bits and even. 0 where the
+ * call did not set NXL: address 0 lies inside every memory. */
+static inline uint32_t pcl_missing(uint64_t answer) { return pcl_value(answer); }
 
 /* Makes a link. The set-up has four numbers for each unit: transmitter address
  * and receiver address (1 to 31; no two transmitters have the same, and no two
@@ -126,9 +134,10 @@ uint32_t pcl_slice(uint16_t *cells, size_t cells_length, uint16_t data_mask, uin
  * PCL_TRANSMITTER, to memory at side PCL_RECEIVER. The memory is that of the
  * named unit; it has at least the fitted length, else 9, and what stands past
  * that is left alone. The fitted length is the one that the unit's cells hold,
- * whoever wrote them. NXL, BC OFL and memory overflow come with number 0.
- * Answers 0, 1, 4, 9. */
-uint32_t pcl_move(uint16_t *cells, size_t cells_length, uint16_t *memory, size_t memory_length, uint32_t unit, uint32_t side);
+ * whoever wrote them. NXL, BC OFL and memory overflow come with number 0; where
+ * this call set NXL, so does the address that lies outside the memory, which
+ * pcl_missing() gives. Answers 0 with that address or 0; 1, 4, 9. */
+uint64_t pcl_move(uint16_t *cells, size_t cells_length, uint16_t *memory, size_t memory_length, uint32_t unit, uint32_t side);
 
 /* A period of time has passed for a unit, at both of its sides: at a transmitter
  * that is BUSY, or a receiver whose channel is open, the second in a row sets TIM

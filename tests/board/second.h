@@ -1,4 +1,4 @@
-/* second.h - a second implementation of document 02's readings board, No. 2.
+/* second.h - a second implementation of document 02's readings board, Nos. 2 and 3.
  * Answers and arguments are those of include/board.h. */
 #ifndef SECOND_BOARD_H
 #define SECOND_BOARD_H
@@ -14,5 +14,10 @@ typedef uint32_t second_board_link(void *link, uint32_t unit, uint32_t offset);
 
 uint32_t second_board_receive(uint32_t kind, second_board_link *read, void *link, const uint16_t *memory, size_t memory_length, uint32_t unit,
                               uint32_t first, uint32_t *readings, size_t readings_length);
+
+/* The link whose words are collected: a memory move at a unit's receiver. It answers number + 65536 * the address that was missing, or 0. */
+typedef uint64_t second_board_move(void *link, uint32_t unit);
+
+uint64_t second_board_collect(second_board_move *move, void *link, uint32_t unit);
 
 #endif

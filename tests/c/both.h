@@ -25,10 +25,10 @@ static enum { ANSWERS, CELLS, EVERYTHING } depth = EVERYTHING;
 /* Cells hold patterns that no call writes. */
 static bool untidy;
 
-static void differ(const char *call, const char *what, uint32_t archive, uint32_t second)
+static void differ(const char *call, const char *what, uint64_t archive, uint64_t second)
 {
-    fprintf(stderr, "call %llu, %s: %s: the archive has %#x, the second library %#x\n", calls, call, what, (unsigned)archive,
-            (unsigned)second);
+    fprintf(stderr, "call %llu, %s: %s: the archive has %#llx, the second library %#llx\n", calls, call, what,
+            (unsigned long long)archive, (unsigned long long)second);
     exit(1);
 }
 
@@ -138,7 +138,7 @@ static inline void look_everywhere(const char *call)
         look_at_memory(call, unit, PCL_MEMORY_MOST);
 }
 
-static uint32_t look(const char *call, uint32_t archive, uint32_t second)
+static uint32_t look(const char *call, uint64_t archive, uint64_t second)
 {
     calls++;
     if (archive != second)
@@ -151,7 +151,7 @@ static uint32_t look(const char *call, uint32_t archive, uint32_t second)
     }
     if (depth >= EVERYTHING)
         look_at_registers(call);
-    return archive;
+    return (uint32_t)archive;
 }
 
 /* Both unfitted, whatever was there. */
@@ -200,13 +200,13 @@ static uint32_t call_slice(uint32_t data_mask, uint32_t parity_mask)
     return look("slice", archive, second_slice(&l, (uint16_t)data_mask, parity_mask));
 }
 
-/* A move alone is lent a memory. */
-static uint32_t call_move(uint32_t unit, uint32_t side, size_t lent)
+/* A move alone is lent a memory, and answers 64 bits. */
+static uint64_t call_move(uint32_t unit, uint32_t side, size_t lent)
 {
     uint32_t place = unit % PCL_UNITS_MOST;
-    uint32_t archive = pcl_move(cells, PCL_CELLS_MOST, memory[place], lent, unit, side);
+    uint64_t archive = pcl_move(cells, PCL_CELLS_MOST, memory[place], lent, unit, side);
 
-    expect_move(unit, side, archive);
+    expect_move(unit, side, pcl_number(archive));
     look("move", archive, second_move(&l, unit, side, memory_of_second[place], lent));
     if (depth >= CELLS)
         look_at_memory("move", place, lent);

@@ -18,7 +18,7 @@ static uint32_t call_write(uint32_t unit, uint32_t offset, uint32_t word);
 static uint32_t call_write_byte(uint32_t unit, uint32_t offset, uint32_t byte);
 static uint32_t call_read(uint32_t unit, uint32_t offset);
 static uint32_t call_slice(uint32_t data_mask, uint32_t parity_mask);
-static uint32_t call_move(uint32_t unit, uint32_t side, size_t lent);
+static uint64_t call_move(uint32_t unit, uint32_t side, size_t lent);
 static uint32_t call_period(uint32_t unit);
 static uint32_t call_reset(uint32_t unit);
 static uint32_t call_level(uint32_t unit, uint32_t side);
@@ -180,6 +180,21 @@ static void write_address(uint32_t u)
     write_some(u, once_in(2) ? PCL_TSBA : PCL_RDBA, once_in(6) ? any_word() : once_in(3) ? 0xFFF0 + below(16) : below(100));
 }
 
+/* A load at the end of the memory, just past it, or at 777776, and moves that try it. */
+static void miss_address(uint32_t u)
+{
+    uint32_t side = below(2), first = side ? PCL_RCR : PCL_TCR;
+    uint32_t address = once_in(3) ? 0777776 : 2 * unit_at(u)->memory_length - 2 + 2 * below(3);
+
+    call_write(u, first + PCL_TSR, 0);
+    call_write(u, first + PCL_TSBC, 0xFFF0);
+    call_write(u, first + PCL_TSBA, address & 0xFFFF);
+    call_write(u, first, (unit_at(u)->transmitter.side.command & PCL_TCR_DESTINATION(31)) | PCL_TCR_TX_NPR
+               | (address >> 16 & 3) << 4 | perhaps(PCL_TCR_INH_ADI, 2));
+    for (unsigned i = 0; i < 3; i++)
+        call_move(u, side, PCL_MEMORY_MOST);
+}
+
 static void begin_message(void)
 {
     uint32_t t = fitted_unit(), r = fitted_unit();
@@ -253,7 +268,7 @@ static void pass_time(uint32_t u)
 
 static void odd_call(uint32_t u)
 {
-    switch (below(19)) {
+    switch (below(20)) {
     case 0: write_transmitter_command(u); break;
     case 1: write_receiver_command(u); break;
     case 2: write_status(u, PCL_TSR); break;
@@ -271,6 +286,7 @@ static void odd_call(uint32_t u)
     case 15: begin_message(); break;
     case 16: depose_master(); break;
     case 17: pass_time(u); break;
+    case 18: if (once_in(4)) miss_address(u); break;
     default: forge_crc(); break;
     }
 }

@@ -22,7 +22,7 @@ static void must(bool holds, const char *what)
 }
 
 /* Any call but fit, at any unit, on the copy. */
-static uint32_t any_call(size_t length)
+static uint64_t any_call(size_t length)
 {
     uint32_t unit = some_unit(), place = unit % PCL_UNITS_MOST, side = some_side();
 
@@ -100,6 +100,46 @@ static void last_word(void)
     call_slice(0, 0);
     call_move(0, PCL_RECEIVER, PCL_MEMORY_MOST);
     must(was_reached("tx_move_overflow") && was_reached("rc_move_overflow"), "no memory overflow");
+}
+
+/* Document 02's request No. 3: a byte address tried by a load of its own at each side of a unit that sends to itself. */
+static void try_address(uint32_t words, uint32_t address, uint32_t inhibit)
+{
+    const uint32_t setup[] = { 1, 6, 2, words };
+    uint32_t low = address & 0xFFFF, bits = address >> 16 << 4 | inhibit, missing = address / 2 < words ? 0 : address & ~1u;
+
+    call_fit(setup, 4);
+    take_mastership(0);
+    call_write(0, PCL_TSBA, low);
+    call_write(0, PCL_TSBC, 0);
+    call_write(0, PCL_TCR, PCL_TCR_TX_NPR | bits);
+    must(pcl_missing(call_move(0, PCL_TRANSMITTER, words)) == missing, "another address from the transmitter's move");
+    call_write(0, PCL_TSR, 0);
+    call_write(0, PCL_TCR, PCL_TCR_DESTINATION(6) | PCL_TCR_SND_WD);
+    call_write(0, PCL_TSDB, any_word());
+    call_write(0, PCL_RDBA, low);
+    call_write(0, PCL_RDBC, 0);
+    call_write(0, PCL_RCR, PCL_RCR_RC_NPR | BOTH_COMMANDS | bits);
+    call_slice(0, 0);
+    call_slice(0, 0);
+    must(pcl_missing(call_move(0, PCL_RECEIVER, words)) == missing, "another address from the receiver's move");
+}
+
+/* Every class of address, with memories of 1 word, of all 131,072, and between: the last word of the memory, the first past it and the next,
+ * those at the changes of EA16 and EA17, 777776, and odd ones, whose bit 0 is dropped. */
+static void missing_addresses(void)
+{
+    static const uint32_t lengths[] = { 1, 2, 64, 32768, 32769, 131071, 131072 };
+    static const uint32_t fixed[] = { 0, 2, 3, 0xFFFE, 0x10000, 0x1FFFE, 0x20000, 0x2FFFE, 0x30000, 0777774, 0777776, 0777777 };
+
+    for (size_t i = 0; i < sizeof lengths / sizeof lengths[0]; i++)
+        for (uint32_t inhibit = 0; inhibit <= PCL_TCR_INH_ADI; inhibit += PCL_TCR_INH_ADI) {
+            for (size_t k = 0; k < sizeof fixed / sizeof fixed[0]; k++)
+                try_address(lengths[i], fixed[k], inhibit);
+            for (uint32_t near = 2 * lengths[i] - 2; near < 2 * lengths[i] + 4 && near >> 18 == 0; near++)
+                try_address(lengths[i], near, inhibit);
+        }
+    must(all_reached("calls", "tx_move_nxl") && all_reached("calls", "rc_move_nxl"), "an address is never missing");
 }
 
 /* Document 02's request No. 1: every restart, or one in so many, and each of its cases reached. */
@@ -188,6 +228,7 @@ int main(int count, char **arguments)
     forget_both();
     wild_calls(STEPS);                          /* nothing fitted yet */
     last_word();
+    missing_addresses();
     break_messages(wanted < 1000000 ? 17 : 1);  /* 17 shares no divisor with RESTARTS */
     out_of_step();
     another_with_its_address();

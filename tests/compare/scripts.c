@@ -78,7 +78,7 @@ static uint32_t call_slice(uint32_t data_mask, uint32_t parity_mask)
     return second_slice(&l, (uint16_t)data_mask, parity_mask);
 }
 
-static uint32_t call_move(uint32_t unit, uint32_t side, size_t lent)
+static uint64_t call_move(uint32_t unit, uint32_t side, size_t lent)
 {
     (void)lent;                                 /* the script program lends the whole memory */
     RECORD(MOVE, unit, side);

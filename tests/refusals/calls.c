@@ -47,10 +47,10 @@ static void leave_all(uint32_t u)
 }
 
 /* What may find nothing to do: then nothing has changed, else it is undone. */
-static void done_or_left(uint32_t answer)
+static void done_or_left(uint64_t answer)
 {
     if (pcl_number(answer) != PCL_DONE)
-        REFUSED(answer, answer);
+        REFUSED(answer, pcl_number(answer));
     memcpy(cells, cells_before, length * sizeof *cells);
     memcpy(memory, memory_before, memory_length * sizeof *memory);
 }

@@ -26,13 +26,17 @@ static void memory_of(uint32_t words, uint32_t from)
 static void past_the_end(uint32_t words, uint32_t side)
 {
     uint32_t offset = side ? PCL_RSR : PCL_TSR;
+    uint64_t answer;
 
     if (words == PCL_MEMORY_MOST) {
         IS(pcl_value(rd(0, offset)) & PCL_TSR_ERR, PCL_TSR_ERR);
         IS(pcl_value(rd(0, offset)) & PCL_TSR_MEM_OFL, PCL_TSR_MEM_OFL);
         return;
     }
-    IS(mv(0, side), 0);
+    answer = mv(0, side);
+    IS(pcl_number(answer), 0);
+    IS(pcl_missing(answer), 2 * words);
+    IS(answer, (uint64_t)2 * words << 16);
     IS(pcl_value(rd(0, offset)) & PCL_TSR_NXL, PCL_TSR_NXL);
 }
 

@@ -11,12 +11,12 @@ static unsigned long checks;
 
 #define IS(got, want) is(__FILE__, __LINE__, #got, (got), (want))
 
-static inline void is(const char *file, int line, const char *what, uint32_t got, uint32_t want)
+static inline void is(const char *file, int line, const char *what, uint64_t got, uint64_t want)
 {
     checks++;
     if (got == want)
         return;
-    printf("%s:%d: %s is %#x, wanted %#x\n", file, line, what, (unsigned)got, (unsigned)want);
+    printf("%s:%d: %s is %#llx, wanted %#llx\n", file, line, what, (unsigned long long)got, (unsigned long long)want);
     exit(1);
 }
 
@@ -49,7 +49,7 @@ static inline void keep(void)
 /* An answer that leaves everything as it was. */
 #define REFUSED(call, number) refused(__FILE__, __LINE__, #call, (call), (number))
 
-static inline void refused(const char *file, int line, const char *call, uint32_t answer, uint32_t number)
+static inline void refused(const char *file, int line, const char *call, uint64_t answer, uint32_t number)
 {
     is(file, line, call, answer, number);
     is(file, line, "what it changed of the cells", length && memcmp(cells, cells_before, length * sizeof *cells), 0);
@@ -103,7 +103,7 @@ static inline uint32_t rd(uint32_t u, uint32_t o) { return pcl_read(cells, lengt
 static inline uint32_t wr(uint32_t u, uint32_t o, unsigned w) { return pcl_write(cells, length, u, o, (uint16_t)w); }
 static inline uint32_t wb(uint32_t u, uint32_t o, unsigned b) { return pcl_write_byte(cells, length, u, o, (uint8_t)b); }
 static inline uint32_t sl(unsigned data, uint32_t parity) { return pcl_slice(cells, length, (uint16_t)data, parity); }
-static inline uint32_t mv(uint32_t u, uint32_t side) { return pcl_move(cells, length, memory, memory_length, u, side); }
+static inline uint64_t mv(uint32_t u, uint32_t side) { return pcl_move(cells, length, memory, memory_length, u, side); }
 static inline uint32_t pd(uint32_t u) { return pcl_period(cells, length, u); }
 static inline uint32_t rs(uint32_t u) { return pcl_reset(cells, length, u); }
 static inline uint32_t lv(uint32_t u, uint32_t side) { return pcl_level(cells, length, u, side); }

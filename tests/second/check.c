@@ -23,13 +23,13 @@ static unsigned long checks;
 
 #define IS(got, want) is(__LINE__, #got, (got), (want))
 
-static void is(int line, const char *what, uint32_t got, uint32_t want)
+static void is(int line, const char *what, uint64_t got, uint64_t want)
 {
     checks++;
     if (got == want)
         return;
     failures++;
-    printf("check.c:%d: %s is %#x, wanted %#x\n", line, what, (unsigned)got, (unsigned)want);
+    printf("check.c:%d: %s is %#llx, wanted %#llx\n", line, what, (unsigned long long)got, (unsigned long long)want);
 }
 
 static uint32_t no(uint32_t answer) { return answer & 0xFFFF; }
@@ -38,12 +38,18 @@ static uint32_t wb(uint32_t u, uint32_t o, uint32_t b) { return second_write_byt
 static uint32_t rd(uint32_t u, uint32_t o) { return second_read(&l, u, o) >> 16; }
 static uint32_t rn(uint32_t u, uint32_t o) { return no(second_read(&l, u, o)); }
 static uint32_t level(uint32_t u, uint32_t s) { return second_interrupt_level(&l, u, s) >> 16; }
-static uint32_t mv(uint32_t u, uint32_t s) { return second_move(&l, u, s, memory[u], 131072); }
+static uint64_t mv(uint32_t u, uint32_t s) { return second_move(&l, u, s, memory[u], 131072); }
 
 /* The answer of a slice in the form of the document: address, A, B. */
 static uint32_t sl(uint32_t address, uint32_t a, uint32_t b)
 {
     return (address + 32 * a + 128 * b) << 16;
+}
+
+/* The answer of a move that set NXL: number 0 with the address. */
+static uint64_t at(uint32_t address)
+{
+    return (uint64_t)address << 16;
 }
 
 /* Slices until transmitter address `address` was served; its answer. */
@@ -542,7 +548,7 @@ static void moves(void)
     memory[0][99] = 0xABCD; memory[1][99] = 0;
     wr(0, TSBA, 198); wr(0, TSBC, 0xFFFC); wr(0, TCR, (12 << 8) | TX_NPR | SND_WD | ST_TXM);
     IS(mv(0, 0), 0); IS(rd(0, TSBA), 200); IS(rd(0, TSBC), 0xFFFE);
-    IS(mv(0, 0), 0); IS(rd(0, TSR), ERR | NXL); IS(rd(0, TCR), (12 << 8) | TX_NPR | 8);
+    IS(mv(0, 0), at(200)); IS(rd(0, TSR), ERR | NXL); IS(rd(0, TCR), (12 << 8) | TX_NPR | 8);
     IS(rd(0, TSBA), 200); IS(rd(0, TSBC), 0xFFFE); IS(mv(0, 0), 4);
     wr(0, TSR, 0); wr(0, TSBA, 198); wr(0, TCR, (12 << 8) | TX_NPR | SND_WD | ST_TXM | INH_ADI);
     IS(mv(0, 0), 0); IS(rd(0, TSBA), 198); IS(rd(0, TSBC), 0);
@@ -553,7 +559,7 @@ static void moves(void)
     IS(rd(1, RCR), (1 << 8) | RC_NPR | 8); IS(mv(1, 1), 4);
     IS(serve(1), sl(1, 2, 1)); IS(rd(1, RSR) & 15, 0xE);      /* frozen */
     IS(rd(0, TSR), BUSY | DTIRDY | 6);
-    wr(1, RSR, 0); wr(1, RDBC, 0xFFFE); IS(mv(1, 1), 0);
+    wr(1, RSR, 0); wr(1, RDBC, 0xFFFE); IS(mv(1, 1), at(200));
     IS(rd(1, RSR), ERR | NXL | CHN_OPN | BUSY | DTORDY | 0xE);
     wb(1, RSR + 1, 0); wr(1, RDBA, 198); IS(mv(1, 1), 0); IS(memory[1][99], 0xABCD);
     IS(rd(1, RDBA), 200); IS(rd(1, RDBC), 0); IS(rd(1, RCR), (1 << 8) | RC_NPR | 8);
@@ -576,6 +582,60 @@ static void moves(void)
     IS(rd(1, RSR), ERR | MEM_OFL | CHN_OPN | BUSY | 0xE);
     IS(serve(1), sl(1, 1, 0)); IS(rd(1, RSR), ERR | MEM_OFL | 0xE);
     IS(rd(0, TSR), ERR | TXM_ERR | SUC | DTIRDY | 1);
+}
+
+/* A byte address tried by a fresh load at each side of unit 0, which sends to itself: "Address outside the memory: NXL", and then, by
+ * document 02, "the 18-bit byte address it tried". The address stays where it was, with and without INH ADI. */
+static void try_address(uint32_t words, uint32_t address, uint32_t inhibit)
+{
+    uint32_t low = address & 0xFFFF, extended = address >> 16 << 4, outside = address / 2 >= words;
+    uint64_t answer = outside ? at(address & ~1u) : 0;
+
+    /* unit 0, whose transmitter has address 1 and whose receiver 11 */
+    fit_plain(1, 2, words);
+    wb(0, TMMR + 1, 0x11);
+    wr(0, TSBA, low); wr(0, TSBC, 0xFFFC); wr(0, TCR, TX_NPR | extended | inhibit);
+    IS(mv(0, 0), answer);
+    IS(rd(0, TSR) & NXL, outside ? NXL : 0);
+    if (outside) {
+        IS(rd(0, TSBA), low & ~1u); IS(rd(0, TCR) & (EA | INH_ADI), extended | inhibit);
+        IS(rd(0, TSBC), 0xFFFC);
+        IS(mv(0, 0), 4);                        /* ERR stands: nothing is tried, and no address told */
+    }
+    wr(0, TSR, 0); wr(0, TCR, TX_INIT); wb(0, TMMR + 1, 0x11);
+    wr(0, TSDB, 0x1234); wr(0, TCR, (11 << 8) | SND_WD);
+    wr(0, RDBA, low); wr(0, RDBC, 0xFFFC); wr(0, RCR, RCV_WD | RCV_DAT | RC_NPR | extended | inhibit);
+    IS(serve(1), sl(1, 2, 3));
+    IS(mv(0, 1), answer);
+    IS(rd(0, RSR) & NXL, outside ? NXL : 0); IS(rd(0, RSR) & DTORDY, outside ? DTORDY : 0);
+    if (outside) {
+        IS(rd(0, RDBA), low & ~1u); IS(rd(0, RCR) & (EA | INH_ADI), extended | inhibit);
+        IS(rd(0, RDBC), 0xFFFC);
+        IS(mv(0, 1), 4);
+    }
+}
+
+/* Document 02, No. 3: the first word past the memory and the next, the last of it, those around each change of EA16 and EA17, 777776,
+ * and odd addresses, whose bit 0 is dropped. A memory of 131,072 words has them all. */
+static void missing(void)
+{
+    static const uint32_t lengths[] = { 1, 2, 64, 32767, 32768, 32769, 65536, 98304, 131071, 131072 };
+    static const uint32_t fixed[] = { 0, 2, 3, 0x7FFE, 0xFFFE, 0x10000, 0x10001, 0x1FFFE, 0x20000, 0x2FFFE, 0x30000, 0x3FFFC, 0777776, 0777777 };
+
+    for (size_t i = 0; i < sizeof lengths / sizeof lengths[0]; i++)
+        for (uint32_t inhibit = 0; inhibit <= INH_ADI; inhibit += INH_ADI) {
+            for (size_t k = 0; k < sizeof fixed / sizeof fixed[0]; k++)
+                try_address(lengths[i], fixed[k], inhibit);
+            for (uint32_t near = 2 * lengths[i] - 2; near < 2 * lengths[i] + 4 && near >> 18 == 0; near++)
+                try_address(lengths[i], near, inhibit);
+        }
+    /* BC OFL goes before NXL, and has no address */
+    fit_plain(1, 2, 1); wb(0, TMMR + 1, 0x11);
+    wr(0, TSDB, 7); wr(0, TCR, (11 << 8) | SND_WD); wr(0, RDBA, 2); wr(0, RCR, RCV_WD | RCV_DAT | RC_NPR);
+    IS(serve(1), sl(1, 2, 3)); IS(mv(0, 1), 0); IS(rd(0, RSR) & (BC_OFL | NXL), BC_OFL);
+    /* memory overflow neither: the word at 777776 was moved */
+    fit_plain(1, 2, 131072); wr(0, TSBA, 0xFFFE); wr(0, TSBC, 0); wr(0, TCR, EA | TX_NPR);
+    IS(mv(0, 0), 0); IS(rd(0, TSR) & (MEM_OFL | NXL), MEM_OFL);
 }
 
 /* 128 words by ST TXM, RCV DAT; the word count of the block is full at both. */
@@ -693,7 +753,7 @@ static void opening_at_an_open_receiver(void)
     }
     /* NXL is no bit that a host writes: a move to the second word of a memory of one */
     fit_plain(2, 2, 1); wb(0, TMMR + 1, (MASTER | AUT_ADR) >> 8); two_words();
-    wr(1, RDBC, 0); wr(1, RDBA, 2); wr(1, RCR, RC_NPR); IS(mv(1, 1), 0); wr(1, RCR, RCV_WD | RCV_DAT);
+    wr(1, RDBC, 0); wr(1, RDBA, 2); wr(1, RCR, RC_NPR); IS(mv(1, 1), at(2)); wr(1, RCR, RCV_WD | RCV_DAT);
     restart(1, SND_WD | ST_TXM); refused_opening(__LINE__, NXL, 0xE);
     /* TXM ERR stands, and the host has set its bits again: a new event, though rule 3 would have left the same */
     mid_message(); wr(1, RSR, TXM_ERR); wr(1, RCR, RCV_WD | RCV_DAT | REJ);
@@ -950,7 +1010,7 @@ int main(void)
 {
     set_ups(); refusals(); register_bits(); data_silos(); master_section(); address_silo();
     single_words(); table(); damage(); rejection(); truncation(); periods(); requests();
-    moves(); blocks(); others(); restarts(); demand_3();
+    moves(); missing(); blocks(); others(); restarts(); demand_3();
     printf("check: %lu checks, %d failures\n", checks, failures);
     return failures != 0;
 }

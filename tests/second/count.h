@@ -77,8 +77,10 @@
     /* moves and periods */ \
     X(tx_move_word) X(tx_move_npr) X(tx_move_not_loaded) X(tx_move_err) \
     X(tx_move_full) X(tx_move_rd_silo) X(tx_move_ending) X(tx_move_nxl) \
+    X(tx_move_nxl_first_past) X(tx_move_nxl_777776) X(tx_move_nxl_extended) X(tx_move_nxl_inhibited) \
     X(tx_move_inhibited) X(tx_move_overflow) X(tx_move_count_0) \
     X(rc_move_word) X(rc_move_npr) X(rc_move_empty) X(rc_move_err) \
+    X(rc_move_nxl_first_past) X(rc_move_nxl_777776) X(rc_move_nxl_extended) X(rc_move_nxl_inhibited) \
     X(rc_move_bc_ofl) X(rc_move_nxl) X(rc_move_inhibited) \
     X(rc_move_overflow) X(rc_move_count_0) \
     X(tx_period_not_busy) X(tx_period_mark) X(tx_tim_out) X(tx_tim_out_mark_stays) \

@@ -95,7 +95,7 @@ static void everything_holds(void)
             channel_holds(address);
 }
 
-static uint32_t tally(uint32_t answer)
+static uint64_t tally(uint64_t answer)
 {
     uint32_t number = answer & 0xFFFF;
 
@@ -110,15 +110,29 @@ static uint32_t tally(uint32_t answer)
     return answer;
 }
 
-static uint32_t call_fit(const uint32_t *setup, size_t length) { return tally(second_fit(&l, setup, length)); }
-static uint32_t call_write(uint32_t u, uint32_t o, uint32_t w) { return tally(second_write(&l, u, o, (uint16_t)w)); }
-static uint32_t call_write_byte(uint32_t u, uint32_t o, uint32_t b) { return tally(second_write_byte(&l, u, o, (uint8_t)b)); }
-static uint32_t call_read(uint32_t u, uint32_t o) { return tally(second_read(&l, u, o)); }
-static uint32_t call_slice(uint32_t data, uint32_t parity) { return tally(second_slice(&l, (uint16_t)data, parity)); }
-static uint32_t call_move(uint32_t u, uint32_t side, size_t lent) { return tally(second_move(&l, u, side, memory[u % 16], lent)); }
-static uint32_t call_period(uint32_t u) { return tally(second_period(&l, u)); }
-static uint32_t call_reset(uint32_t u) { return tally(second_reset(&l, u)); }
-static uint32_t call_level(uint32_t u, uint32_t side) { return tally(second_interrupt_level(&l, u, side)); }
+static uint32_t call_fit(const uint32_t *setup, size_t length) { return (uint32_t)tally(second_fit(&l, setup, length)); }
+static uint32_t call_write(uint32_t u, uint32_t o, uint32_t w) { return (uint32_t)tally(second_write(&l, u, o, (uint16_t)w)); }
+static uint32_t call_write_byte(uint32_t u, uint32_t o, uint32_t b) { return (uint32_t)tally(second_write_byte(&l, u, o, (uint8_t)b)); }
+static uint32_t call_read(uint32_t u, uint32_t o) { return (uint32_t)tally(second_read(&l, u, o)); }
+static uint32_t call_slice(uint32_t data, uint32_t parity) { return (uint32_t)tally(second_slice(&l, (uint16_t)data, parity)); }
+
+/* A move's value is there exactly where it set NXL, and is the address that it tried. */
+static uint64_t call_move(uint32_t u, uint32_t side, size_t lent)
+{
+    const struct second_unit *was = &before.unit[u % SECOND_UNITS], *is = &l.unit[u % SECOND_UNITS];
+    uint64_t answer = second_move(&l, u, side, memory[u % 16], lent), value = answer >> 16;
+    const struct second_side *old = side ? &was->receiver.side : &was->transmitter.side;
+    const struct second_side *now = side ? &is->receiver.side : &is->transmitter.side;
+
+    must((value != 0) == (~old->status & now->status & PCL_TSR_NXL) / PCL_TSR_NXL, "an address without NXL, or NXL without one");
+    must(value == 0 || value == ((old->command >> 4 & 3u) << 16 | old->bus_address), "another address than the one tried");
+    must(value == 0 || (value % 2 == 0 && value >> 18 == 0 && value / 2 >= was->memory_length), "no address outside the memory");
+    return tally(answer);
+}
+
+static uint32_t call_period(uint32_t u) { return (uint32_t)tally(second_period(&l, u)); }
+static uint32_t call_reset(uint32_t u) { return (uint32_t)tally(second_reset(&l, u)); }
+static uint32_t call_level(uint32_t u, uint32_t side) { return (uint32_t)tally(second_interrupt_level(&l, u, side)); }
 
 int main(int count, char **arguments)
 {

@@ -55,14 +55,14 @@ static uint32_t run_fit(const uint8_t *body)
 }
 
 /* A unit that no set-up can fit is lent nothing (reading 33). */
-static uint32_t run_move(unsigned unit, unsigned side)
+static uint64_t run_move(unsigned unit, unsigned side)
 {
     if (unit >= SECOND_UNITS)
         return second_move(&link_state, unit, side, NULL, 0);
     return second_move(&link_state, unit, side, memory[unit], MEMORY_WORDS);
 }
 
-static uint32_t run(unsigned kind, const uint8_t *body)
+static uint64_t run(unsigned kind, const uint8_t *body)
 {
     struct second_link *l = &link_state;
 
@@ -80,12 +80,14 @@ static uint32_t run(unsigned kind, const uint8_t *body)
 }
 
 /* "Each line is the kind and the number, in decimal; with 0, a read adds the
- * word, an interrupt level 0 or 1, a slice address, A and B." */
-static void print_line(unsigned kind, uint32_t answer)
+ * word, an interrupt level 0 or 1, a slice address, A and B."  Document 02: "The
+ * script line of a move with NXL gains it as a third field, in decimal": such an
+ * address is never 0, which lies inside every memory. */
+static void print_line(unsigned kind, uint64_t answer)
 {
-    unsigned number = answer & 0xFFFF, value = answer >> 16;
+    unsigned number = answer & 0xFFFF, value = (unsigned)(answer >> 16);
 
-    if (number == 0 && (kind == READ || kind == LEVEL))
+    if (number == 0 && (kind == READ || kind == LEVEL || (kind == MOVE && value != 0)))
         printf("%u 0 %u\n", kind, value);
     else if (number == 0 && kind == SLICE)
         printf("%u 0 %u %u %u\n", kind, value & 31, value >> 5 & 3, value >> 7 & 3);

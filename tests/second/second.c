@@ -1,5 +1,5 @@
-/* second.c - the link of document 01 with document 02's change No. 1, written
- * apart from the first program.
+/* second.c - the link of document 01 with document 02's changes No. 1 and No. 3,
+ * written apart from the first program.
  *
  * Quoted sentences are document 01's, or where it says so document 02's; "reading
  * n" is one of docs/DECISIONS.md. */
@@ -1547,6 +1547,29 @@ static uint32_t full_address(const struct second_side *s)
     return (uint32_t)(s->command & EXTENDED_ADDRESS) >> EXTENDED_SHIFT << 16 | s->bus_address;
 }
 
+/* Counting alone. */
+static void count_missing(const struct second_side *s, uint32_t memory_length, bool transmits)
+{
+    uint32_t address = full_address(s);
+
+    COUNT_IF(transmits, tx_move_nxl);
+    COUNT_IF(!transmits, rc_move_nxl);
+    COUNT_IF(transmits && address == 2 * memory_length, tx_move_nxl_first_past);
+    COUNT_IF(!transmits && address == 2 * memory_length, rc_move_nxl_first_past);
+    COUNT_IF(transmits && address == 0777776, tx_move_nxl_777776);
+    COUNT_IF(!transmits && address == 0777776, rc_move_nxl_777776);
+    COUNT_IF(transmits && has(s, EXTENDED_ADDRESS), tx_move_nxl_extended);
+    COUNT_IF(!transmits && has(s, EXTENDED_ADDRESS), rc_move_nxl_extended);
+    COUNT_IF(transmits && has(s, INHIBIT_INCREMENT), tx_move_nxl_inhibited);
+    COUNT_IF(!transmits && has(s, INHIBIT_INCREMENT), rc_move_nxl_inhibited);
+}
+
+/* Document 02, No. 3: "the 18-bit byte address it tried" goes up with answer 0. */
+static uint64_t missing(const struct second_side *s)
+{
+    return (uint64_t)full_address(s) << 16;
+}
+
 /* 2 added to the address "unless INH ADI"; answers whether it wrapped past
  * 777776 (octal). */
 static bool advance_address(struct second_side *s)
@@ -1604,7 +1627,7 @@ static bool source_may_move(const struct second_transmitter *t)
 
 /* The transmitter's move: "the word is loaded, 2 added to count and, unless INH
  * ADI, to the address. Count 0 clears TX NPR." */
-static uint32_t move_source(struct second_unit *u, const uint16_t *memory)
+static uint64_t move_source(struct second_unit *u, const uint16_t *memory)
 {
     struct second_transmitter *t = &u->transmitter;
     uint32_t place = full_address(&t->side) / 2;
@@ -1614,9 +1637,9 @@ static uint32_t move_source(struct second_unit *u, const uint16_t *memory)
         return 4;
     }
     if (place >= u->memory_length) {
-        COUNT(tx_move_nxl);
+        count_missing(&t->side, u->memory_length, true);
         transmitter_event(t, NON_EXISTENT);
-        return 0;
+        return missing(&t->side);
     }
     COUNT(tx_move_word);
     COUNT_IF(has(&t->side, INHIBIT_INCREMENT), tx_move_inhibited);
@@ -1634,17 +1657,15 @@ static uint32_t move_source(struct second_unit *u, const uint16_t *memory)
 
 /* An error met by the receiver's move: "the word stays where it was; these ..
  * come with number 0". */
-static uint32_t destination_error(struct second_receiver *r, unsigned bit)
+static uint64_t destination_error(struct second_receiver *r, unsigned bit)
 {
-    COUNT_IF(bit == COUNT_OVERFLOW, rc_move_bc_ofl);
-    COUNT_IF(bit == NON_EXISTENT, rc_move_nxl);
     receiver_event(r, bit);
-    return 0;
+    return bit == NON_EXISTENT ? missing(&r->side) : 0;
 }
 
 /* "Receiver: RC NPR, a word, no ERR; else 4. Not loaded: BC OFL. Else alike,
  * storing, but count 0 leaves RC NPR set." */
-static uint32_t move_destination(struct second_unit *u, uint16_t *memory)
+static uint64_t move_destination(struct second_unit *u, uint16_t *memory)
 {
     struct second_receiver *r = &u->receiver;
     uint32_t place = full_address(&r->side) / 2;
@@ -1653,10 +1674,14 @@ static uint32_t move_destination(struct second_unit *u, uint16_t *memory)
         count_destination_refused(&r->side);
         return 4;
     }
-    if (!r->side.loaded)
+    if (!r->side.loaded) {
+        COUNT(rc_move_bc_ofl);
         return destination_error(r, COUNT_OVERFLOW);
-    if (place >= u->memory_length)
+    }
+    if (place >= u->memory_length) {
+        count_missing(&r->side, u->memory_length, false);
         return destination_error(r, NON_EXISTENT);
+    }
     COUNT(rc_move_word);
     COUNT_IF(has(&r->side, INHIBIT_INCREMENT), rc_move_inhibited);
     memory[place] = oldest(&r->side.silo);
@@ -1671,7 +1696,7 @@ static uint32_t move_destination(struct second_unit *u, uint16_t *memory)
 }
 
 /* Order "9, 7, 1": the lent room counts for a fitted unit alone (reading 33). */
-static uint32_t move(struct second_link *l, uint32_t unit, uint32_t side,
+static uint64_t move(struct second_link *l, uint32_t unit, uint32_t side,
                      uint16_t *memory, size_t memory_length)
 {
     if (!fitted(l, unit))
@@ -1807,10 +1832,13 @@ uint32_t second_slice(struct second_link *l, uint16_t data_mask, uint32_t parity
     return answered(CALL_slice, slice(l, data_mask, parity_mask));
 }
 
-uint32_t second_move(struct second_link *l, uint32_t unit, uint32_t side,
+uint64_t second_move(struct second_link *l, uint32_t unit, uint32_t side,
                      uint16_t *memory, size_t memory_length)
 {
-    return answered(CALL_move, move(l, unit, side, memory, memory_length));
+    uint64_t answer = move(l, unit, side, memory, memory_length);
+
+    answered(CALL_move, (uint32_t)(answer & 0xFFFF));
+    return answer;
 }
 
 uint32_t second_period(struct second_link *l, uint32_t unit)

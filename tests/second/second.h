@@ -1,10 +1,12 @@
 /* second.h - a second implementation of the link of document 01 (PCL11-B), with
- * document 02's request No. 1.
+ * document 02's requests No. 1 and No. 3.
  *
  * The caller owns one `struct second_link`; zeroed memory is the unfitted
  * state.  Every call answers one number: number + 65536 * value.  The value is
  * the word of a read answered 0, the 0 or 1 of an interrupt level answered 0,
- * and for a slice answered 0: address + 32 * A + 128 * B.  Else it is 0. */
+ * for a slice answered 0: address + 32 * A + 128 * B, and for a move that set
+ * NXL the byte address it tried.  Else it is 0.  A byte address has 18 bits, so
+ * that a move answers 64. */
 #ifndef SECOND_H
 #define SECOND_H
 
@@ -94,7 +96,7 @@ uint32_t second_write_byte(struct second_link *l, uint32_t unit, uint32_t offset
 uint32_t second_read(struct second_link *l, uint32_t unit, uint32_t offset);
 uint32_t second_slice(struct second_link *l, uint16_t data_mask, uint32_t parity_mask);
 /* side 0 transmits, 1 receives; memory is that of the named unit. */
-uint32_t second_move(struct second_link *l, uint32_t unit, uint32_t side,
+uint64_t second_move(struct second_link *l, uint32_t unit, uint32_t side,
                      uint16_t *memory, size_t memory_length);
 uint32_t second_period(struct second_link *l, uint32_t unit);
 uint32_t second_reset(struct second_link *l, uint32_t unit);

@@ -98,6 +98,10 @@ TOLD = [
     ('slice', '4 0 2 0 0', 'done; address 2, A 00 off line or error, B 00 busy or off line'),
     ('slice', '4 8', 'no master'),
     ('move 0 T', '5 4', 'nothing to read or move'),
+    ('move 0 T', '5 0', 'done'),
+    ('move 0 T', '5 0 128', 'done; NXL, non-existent location 000200'),
+    ('move 1 R', '5 0 65536', 'done; NXL, non-existent location 200000'),
+    ('move 1 R', '5 0 262142', 'done; NXL, non-existent location 777776'),
     ('period 0', '6 0', 'done'),
     ('reset 20', '7 1', 'unit not fitted, or no such side'),
     ('byte 0 TMMR+1 21', '8 0', 'done; writes MASTER, AUT ADR'),
@@ -106,6 +110,18 @@ TOLD = [
     ('level 0 R', '9 0 1', 'done; stands'),
     ('level 0 T', '9 0 0', 'done; does not stand'),
     ('level 0 T', '9 9', 'state or room is bad'),
+]
+
+# Lines that no move prints, and what is said of them.
+UNMOVED = [
+    ('5 0 0', '1:5: `5 0 0`, for record 1, has no such address'),
+    ('5 0 126', '1:5: `5 0 126`, for record 1, has no such address'),
+    ('5 0 129', '1:5: `5 0 129`, for record 1, has no such address'),
+    ('5 0 262143', '1:5: `5 0 262143`, for record 1, has no such numbers'),
+    ('5 0 262144', '1:5: `5 0 262144`, for record 1, has no such numbers'),
+    ('5 0 1000000', '1:5: `5 0 1000000`, for record 1, is no line of link'),
+    ('5 4 128', '1:5: `5 4 128`, for record 1, has no such numbers'),
+    ('5 0 128 0', '1:9: `5 0 128 0`, for record 1, has no such numbers'),
 ]
 
 # A script that stops, and the reason.

@@ -1,5 +1,6 @@
 pub mod Build
 pub mod Calls
+pub mod Collect
 pub mod Contracts
 pub mod Inverse
 pub mod Messages

@@ -1,4 +1,5 @@
 pub mod BuildLaws
+pub mod CollectLaws
 pub mod InverseLaws
 pub mod MessageLaws
 pub mod Packed

@@ -42,3 +42,11 @@ pub enum ReceiveCall {
     Link(pcl::answers::ReadCall),
     Message(Read),
 }
+
+// What came of collecting a unit's received words: the link refused a move, by its own name; an address outside the memory stopped it,
+// which is the 18-bit byte address tried; or so many moves were answered 0, and nothing more is to be moved.
+pub enum Collected {
+    Link(pcl::answers::MoveCall),
+    Missing(u32),
+    Moves(u16),
+}

@@ -1,16 +1,18 @@
 // The calls as C has them: plain numbers and slices, and an answer's number with its value above it.
 use crate::answers::Built;
+use crate::answers::Collected;
 use crate::answers::Read;
 use crate::answers::ReadCall;
 use crate::answers::ReceiveCall;
 use crate::building::build;
+use crate::collecting::collect;
 use crate::reading::count_of;
 use crate::reading::read_numbers;
 use crate::receiving::receive;
 ghost use mathlib.Core.Path.{_≡_};
-ghost use Rattle.board.specs.Contracts.{ReadFaceOutcome, BuildFaceOutcome, ReceiveFaceOutcome};
-ghost use Rattle.board.specs.Numbers.{readNumber, readCallPacked, receivePacked, builtNumber, builtPacked};
-ghost use Rattle.pcl.specs.Numbers.{readCallNumber};
+ghost use Rattle.board.specs.Contracts.{ReadFaceOutcome, BuildFaceOutcome, ReceiveFaceOutcome, CollectFaceOutcome};
+ghost use Rattle.board.specs.Numbers.{readNumber, readCallPacked, receivePacked, builtNumber, builtPacked, collectPacked};
+ghost use Rattle.pcl.specs.Numbers.{readCallNumber, moveCallNumber};
 ghost use Rattle.words.specs.Answers as Words;
 
 fn number_read(read: Read) -> u32
@@ -89,6 +91,38 @@ fn pack_built(built: Built) -> u32
     words as u32 * 65536
 }
 
+fn number_moved(answer: words::answers::Move) -> u32
+    ensures { λ r. ⌜ r ≡ Words.moveNumber answer ⌝ }
+{
+    match answer {
+        words::answers::Move::Done => 0,
+        words::answers::Move::Missing(_) => 0,
+        words::answers::Move::Nothing => 4,
+    }
+}
+
+// A move that the link refused, by its own number.
+fn number_unmoved(refusal: pcl::answers::MoveCall) -> u32
+    ensures { λ r. ⌜ r ≡ moveCallNumber refusal ⌝ }
+{
+    match refusal {
+        pcl::answers::MoveCall::BadState => 9,
+        pcl::answers::MoveCall::NoUnit => 1,
+        pcl::answers::MoveCall::Side(answer) => number_moved(answer),
+    }
+}
+
+// An address takes 18 bits.
+fn pack_collected(collected: Collected) -> u64
+    ensures { λ r. ⌜ r ≡ collectPacked collected ⌝ }
+{
+    match collected {
+        Collected::Link(refusal) => number_unmoved(refusal) as u64 + 16,
+        Collected::Missing(address) => address as u64 * 65536 + 8,
+        Collected::Moves(moves) => moves as u64 * 65536,
+    }
+}
+
 #[no_mangle]
 pub extern "C" fn board_build(kind: u32, readings: &[u32], message: &mut [u16]) -> u32
     ensures { λ r. ⌜ BuildFaceOutcome kind (now (readings .entry)) (now (message .entry)) (r, now (message .exit)) ⌝ }
@@ -115,4 +149,11 @@ pub extern "C" fn board_receive(
     ensures { λ r. ⌜ ReceiveFaceOutcome kind (now (cells .entry)) (now (memory .entry)) unit first (now (readings .entry)) (r, now (cells .exit), now (readings .exit)) ⌝ }
 {
     pack_receive(receive(kind, cells, memory, unit, first, readings))
+}
+
+#[no_mangle]
+pub extern "C" fn board_collect(cells: &mut [u16], memory: &mut [u16], unit: u32) -> u64
+    ensures { λ r. ⌜ CollectFaceOutcome (now (cells .entry)) (now (memory .entry)) unit (r, now (cells .exit), now (memory .exit)) ⌝ }
+{
+    pack_collected(collect(cells, memory, unit))
 }

@@ -1,4 +1,5 @@
 pub mod Frames
+pub mod Missing
 pub mod Ranges
 pub mod Refusals
 pub mod Unchanged

@@ -4,7 +4,7 @@ use mathlib.Core.List.{List}
 use Prim.Native.Nat.{ℕ}
 use Rattle.pcl.specs.Calls.{readCall, writeCall, byteCall, resetCall, periodCall}
 use Rattle.pcl.specs.Link.{fitCall, sliceCall}
-use Rattle.pcl.specs.Numbers.{readPacked, writeCallNumber, doneNumber, fitNumber, slicePacked, moveCallNumber, levelPacked}
+use Rattle.pcl.specs.Numbers.{readPacked, writeCallNumber, doneNumber, fitNumber, slicePacked, movePacked, levelPacked}
 use Rattle.pcl.specs.Sides.{moveCall, levelCall}
 use Rattle.pcl.specs.declared.answers.MoveCall.{MoveCall}
 
@@ -33,7 +33,7 @@ abbrev pub sliceFace : List ℕ → ℕ → ℕ → ℕ × List ℕ
 sliceFace cells mask parity = packed slicePacked (sliceCall cells mask parity)
 
 abbrev pub packedMove : MoveCall × List ℕ × List ℕ → ℕ × List ℕ × List ℕ
-packedMove p = (moveCallNumber (p .0), p .1, p .2)
+packedMove p = (movePacked (p .0), p .1, p .2)
 
 abbrev pub moveFace : List ℕ → List ℕ → ℕ → ℕ → ℕ × List ℕ × List ℕ
 moveFace cells memory unit side = packedMove (moveCall cells memory unit side)

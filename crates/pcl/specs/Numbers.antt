@@ -1,11 +1,11 @@
 -- Document 01, Numbers: the number of each call's answer, and its value. C gets one number, the value 65,536 times over the number
--- (docs/DECISIONS.md, "What C gets").
+-- (docs/DECISIONS.md, "What C gets"): in 32 bits, and in 64 that of a move, whose value has 18.
 -- Assumes nothing.
 use Prim.Native.Nat.{ℕ, _+_, _*_, _/_, _%_}
 use Rattle.bus.specs.declared.slice.Given.{Given}
 use Rattle.bus.specs.declared.slice.Slot.{Slot}
 use Rattle.laws.specs.Bits.{bit}
-use Rattle.words.specs.Answers.{readNumber, readWord, writeNumber, moveNumber}
+use Rattle.words.specs.Answers.{readNumber, readWord, writeNumber, moveNumber, moveValue}
 use Rattle.pcl.specs.declared.answers.FitCall.{FitCall}
 use Rattle.pcl.specs.declared.answers.LevelCall.{LevelCall}
 use Rattle.pcl.specs.declared.answers.MoveCall.{MoveCall}
@@ -49,6 +49,15 @@ abbrev pub moveCallNumber : MoveCall → ℕ
 moveCallNumber MoveCall.BadState = 9
 moveCallNumber MoveCall.NoUnit = 1
 moveCallNumber (MoveCall.Side m) = moveNumber m
+
+-- "the move must hand it up with its answer 0" (document 02, No. 3): the address that was missing, and 0 where none was
+abbrev pub moveCallValue : MoveCall → ℕ
+moveCallValue MoveCall.BadState = 0
+moveCallValue MoveCall.NoUnit = 0
+moveCallValue (MoveCall.Side m) = moveValue m
+
+abbrev pub movePacked : MoveCall → ℕ
+movePacked c = moveCallNumber c + moveCallValue c * 65536
 
 abbrev pub levelNumber : LevelCall → ℕ
 levelNumber LevelCall.BadState = 9

@@ -60,7 +60,7 @@ pub extern "C" fn pcl_slice(cells: &mut [u16], mask: u16, parity: u32) -> u32
 }
 
 #[no_mangle]
-pub extern "C" fn pcl_move(cells: &mut [u16], memory: &mut [u16], unit: u32, side: u32) -> u32
+pub extern "C" fn pcl_move(cells: &mut [u16], memory: &mut [u16], unit: u32, side: u32) -> u64
     ensures { λ r. ⌜ MoveFaceOutcome (now (cells .entry)) (now (memory .entry)) unit side (r, now (cells .exit), now (memory .exit)) ⌝ }
 {
     pack_move(move_word(cells, memory, unit, side))

@@ -1,4 +1,4 @@
-// The plain number that C gets: document 01's number below, the value above it.
+// The plain number that C gets: document 01's number below, the value above it. That of a move has 64 bits, for its value has 18.
 use crate::answers::FitCall;
 use crate::answers::LevelCall;
 use crate::answers::MoveCall;
@@ -12,10 +12,10 @@ use words::answers::Move;
 use words::answers::Read;
 use words::answers::Write;
 ghost use mathlib.Core.Path.{_≡_};
-ghost use Rattle.pcl.specs.Numbers.{readPacked, writeCallNumber, doneNumber, fitNumber, moveCallNumber, levelPacked, slicePacked};
+ghost use Rattle.pcl.specs.Numbers.{readPacked, writeCallNumber, doneNumber, fitNumber, movePacked, levelPacked, slicePacked};
 ghost use Rattle.pcl.specs.laws.Narrow.{Narrow, NarrowSlot, NarrowCall};
-ghost use Rattle.pcl.specs.laws.Packed.{foundPacked, givenPacked, slotPacked};
-ghost use Rattle.words.specs.Answers.{writeNumber, moveNumber};
+ghost use Rattle.pcl.specs.laws.Packed.{foundPacked, movedPacked, givenPacked, slotPacked};
+ghost use Rattle.words.specs.Answers.{writeNumber};
 
 fn pack_found(read: Read) -> u32
     ensures { λ r. ⌜ r ≡ foundPacked read ⌝ }
@@ -79,22 +79,23 @@ pub fn pack_fit(call: FitCall) -> u32
     }
 }
 
-fn number_moved(answer: Move) -> u32
-    ensures { λ r. ⌜ r ≡ moveNumber answer ⌝ }
+fn pack_moved(answer: Move) -> u64
+    ensures { λ r. ⌜ r ≡ movedPacked answer ⌝ }
 {
     match answer {
         Move::Done => 0,
+        Move::Missing(address) => address as u64 * 65536,
         Move::Nothing => 4,
     }
 }
 
-pub fn pack_move(call: MoveCall) -> u32
-    ensures { λ r. ⌜ r ≡ moveCallNumber call ⌝ }
+pub fn pack_move(call: MoveCall) -> u64
+    ensures { λ r. ⌜ r ≡ movePacked call ⌝ }
 {
     match call {
         MoveCall::BadState => 9,
         MoveCall::NoUnit => 1,
-        MoveCall::Side(answer) => number_moved(answer),
+        MoveCall::Side(answer) => pack_moved(answer),
     }
 }
 

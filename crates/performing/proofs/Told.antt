@@ -6,7 +6,7 @@ use Prim.Native.Nat.{ℕ}
 use lib.Dec.{eqb}
 use lib.ListN.{length, take, drop, replicate}
 use Rattle.laws.specs.Pick.{pick}
-use Rattle.performing.specs.Perform.{callLine, Outcome, leaving, fitDone, memoryPlace, moveDone}
+use Rattle.performing.specs.Perform.{callLine, moveLine, Outcome, leaving, fitDone, memoryPlace, moveDone}
 use Rattle.script.specs.declared.lines.Line.{Line}
 
 pub left-told : {line : Line} {packed : ℕ} {cells : List ℕ} (memories : List ℕ) (f : ℕ → Line) (p : ℕ × List ℕ)
@@ -21,11 +21,11 @@ fit-told {line} {packed} {cells} {after} memories p said e cleared =
 
 -- the part of the memories that was lent, n words, is one memory
 pub move-told : {line : Line} {packed : ℕ} {cells room : List ℕ} (unit n : ℕ) (memories : List ℕ) (f : ℕ → ℕ × List ℕ × List ℕ) → n ≡ 64
-    → line ≡ callLine 5 packed → _≡_ {A = ℕ × List ℕ × List ℕ} (packed, cells, room) (f n)
+    → line ≡ moveLine packed → _≡_ {A = ℕ × List ℕ × List ℕ} (packed, cells, room) (f n)
     → _≡_ {A = Outcome} (line, cells, take (memoryPlace unit) memories ++ (room ++ drop n (drop (memoryPlace unit) memories)))
     (moveDone unit memories (f 64))
 move-told {line} {packed} {cells} {room} unit n memories f whole said e =
     let place = memoryPlace unit in
     ap (λ (l : Line). (l, cells, take place memories ++ (room ++ drop n (drop place memories)))) said
-    ∙ ap (λ (k : ℕ). (callLine 5 packed, cells, take place memories ++ (room ++ drop k (drop place memories)))) whole
+    ∙ ap (λ (k : ℕ). (moveLine packed, cells, take place memories ++ (room ++ drop k (drop place memories)))) whole
     ∙ ap (moveDone unit memories) (e ∙ ap f whole)

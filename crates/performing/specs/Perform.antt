@@ -30,6 +30,11 @@ levelLine packed = Line.Level (numberIn packed) (valueIn packed)
 abbrev pub sliceLine : ℕ → Line
 sliceLine packed = Line.Slice (numberIn packed) (valueIn packed % 32) (valueIn packed / 32 % 4) (valueIn packed / 128 % 4)
 
+-- "The script line of a move with NXL gains it as a third field" (document 02, No. 3): the value of a move is the address that was missing,
+-- and 0 where none was
+abbrev pub moveLine : ℕ → Line
+moveLine packed = pick (eqb (valueIn packed) 0) (callLine 5 packed) (Line.Missing (valueIn packed))
+
 -- ---- the line, the cells and the memories after a call
 
 abbrev pub Outcome : Type 0
@@ -55,7 +60,7 @@ memoryOf unit memories = take 64 (drop (memoryPlace unit) memories)
 
 abbrev pub moveDone : ℕ → List ℕ → ℕ × List ℕ × List ℕ → Outcome
 moveDone unit memories p =
-    (callLine 5 (p .0), p .1, take (memoryPlace unit) memories ++ (p .2 ++ drop 64 (drop (memoryPlace unit) memories)))
+    (moveLine (p .0), p .1, take (memoryPlace unit) memories ++ (p .2 ++ drop 64 (drop (memoryPlace unit) memories)))
 
 abbrev pub movePerformed : ℕ → ℕ → List ℕ → List ℕ → Outcome
 movePerformed unit side cells memories = moveDone unit memories (moveFace cells (memoryOf unit memories) unit side)

@@ -14,25 +14,25 @@ use script::setups::NUMBERS;
 use script::setups::put_set_up;
 ghost use mathlib.Core.List.{List};
 ghost use mathlib.Core.Path.{_≡_};
-ghost use Prim.Native.Nat.{ℕ, _≤_};
+ghost use Prim.Native.Nat.{ℕ, _^_, _≤_, _<_};
 ghost use lib.ListN.{length, drop, replicate};
 ghost use Rattle.pcl.specs.Face.{fitFace};
 ghost use Rattle.script.specs.SetUps.{setUpOf};
-ghost use Rattle.performing.specs.Perform.{numberIn, valueIn, callLine, readLine, levelLine, sliceLine, Outcome, fitPerformed, movePerformed, performed};
+ghost use Rattle.performing.specs.Perform.{numberIn, valueIn, callLine, readLine, levelLine, sliceLine, moveLine, Outcome, fitPerformed, movePerformed, performed};
 
-fn number_in(packed: u32) -> u16
+fn number_in(packed: u32) -> u32
     ensures { λ r. ⌜ r ≡ numberIn packed ⌝ }
 {
-    (packed % 65536) as u16
+    packed % 65536
 }
 
-fn value_in(packed: u32) -> u16
+fn value_in(packed: u32) -> u32
     ensures { λ r. ⌜ r ≡ valueIn packed ⌝ }
 {
-    (packed / 65536) as u16
+    packed / 65536
 }
 
-fn call_line(kind: u16, packed: u32) -> Line
+fn call_line(kind: u32, packed: u32) -> Line
     ensures { λ r. ⌜ r ≡ callLine kind packed ⌝ }
 {
     Line::Call {
@@ -69,6 +69,21 @@ fn slice_line(packed: u32) -> Line
         a: value / 32 % 4,
         b: value / 128 % 4,
     }
+}
+
+// An address that was missing stands above the number, which is 0 with it.
+fn move_line(packed: u64) -> Line
+    requires { ⌜ packed < 2 ^ 34 ⌝ }
+    ensures { λ r. ⌜ r ≡ moveLine packed ⌝ }
+{
+    let address = (packed / 65536) as u32;
+    if address == 0 {
+        return Line::Call {
+            kind: 5,
+            number: (packed % 65536) as u32,
+        };
+    }
+    Line::Missing { address }
 }
 
 fn clear(words: &mut [u16])
@@ -109,7 +124,7 @@ fn perform_move(unit: u8, side: u8, cells: &mut [u16], memories: &mut [u16]) -> 
     let from = unit as usize % 16 * 64;
     let to = from + 64;
     let packed = pcl_move(cells, &mut memories[from..to], unit as u32, side as u32);
-    call_line(5, packed)
+    move_line(packed)
 }
 
 // The bytes begin with the call's record, where a fit has its set-ups.

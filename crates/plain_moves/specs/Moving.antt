@@ -12,6 +12,7 @@ use Rattle.laws.specs.Bits.{bits, bitAt}
 use Rattle.receiver.specs.Moves as R
 use Rattle.silos.specs.Cells.{shifted}
 use Rattle.transmitter.specs.Moves as T
+use Rattle.words.specs.declared.answers.Move.{Move}
 
 -- a head of which a plain move changes three cells alone: its numbers stand within their limits, its own cell below one of its own; it is
 -- loaded, and INH ADI is clear; neither the address nor the count leaves its 15 bits with this word; and the period's mark stands only
@@ -49,12 +50,12 @@ wordPut cells at word = headMoved cells at (cell cells at + 1) ++ set (window ce
 abbrev pub wordTaken : List ℕ → ℕ → List ℕ
 wordTaken cells at = headMoved cells at (cell cells at - 1) ++ shifted (window cells (at + 8) 64)
 
--- the cells after a transmitter's move
-abbrev pub transmitterLoaded : List ℕ → List ℕ → ℕ → List ℕ
+-- the answer and the cells after a transmitter's move
+abbrev pub transmitterLoaded : List ℕ → List ℕ → ℕ → Move × List ℕ
 transmitterLoaded cells memory unit =
-    putTransmitter cells unit (T.moved (transmitterOf cells unit) memory (memoryLength cells unit) .side)
+    let m = T.moved (transmitterOf cells unit) memory (memoryLength cells unit) in (m .answer, putTransmitter cells unit (m .side))
 
--- the cells and the memory after a receiver's
-abbrev pub receiverStored : List ℕ → List ℕ → ℕ → List ℕ × List ℕ
+-- the answer, the cells and the memory after a receiver's
+abbrev pub receiverStored : List ℕ → List ℕ → ℕ → Move × List ℕ × List ℕ
 receiverStored cells memory unit =
-    (putReceiver cells unit (R.moved (receiverOf cells unit) memory (memoryLength cells unit) .0 .side), R.moved (receiverOf cells unit) memory (memoryLength cells unit) .1)
+    let m = R.moved (receiverOf cells unit) memory (memoryLength cells unit) in (m .0 .answer, putReceiver cells unit (m .0 .side), m .1)

@@ -18,6 +18,7 @@ ghost use Rattle.laws.specs.Pick.{pick};
 ghost use Rattle.plain_moves.specs.Moving.{Plain, wordAt, headMoved, wordPut, wordTaken, transmitterLoaded, receiverStored};
 ghost use Rattle.receiver.specs.Moves as R;
 ghost use Rattle.transmitter.specs.Moves as T;
+ghost use Rattle.words.specs.declared.answers.Move.{Move};
 
 // TX NPR, loaded, no error bit, room, RD SILO clear, and not ending, which only an open transmitter is.
 pub fn may_move_out(cells: &[u16], unit: usize) -> bool
@@ -117,10 +118,10 @@ fn take_word(cells: &mut [u16], at: usize) -> u16
     word
 }
 
-// A transmitter's move, where it is plain: whether it was.
+// A transmitter's move, where it is plain: whether it was. It is then done, and no address is missing.
 pub fn load_plain(cells: &mut [u16], memory: &[u16], unit: usize) -> bool
     requires { ⌜ Fitted (now cells) unit × (memoryLength (now cells) unit ≤ length (now memory)) × (T.mayMove (transmitterOf (now cells) unit) ≡ true) ⌝ }
-    ensures { λ r. ⌜ now (cells .exit) ≡ pick r (transmitterLoaded (now (cells .entry)) (now (memory .entry)) unit) (now (cells .entry)) ⌝ }
+    ensures { λ r. ⌜ _≡_ {A = Move × List ℕ} (Move.Done, now (cells .exit)) (pick r (transmitterLoaded (now (cells .entry)) (now (memory .entry)) unit) (Move.Done, now (cells .entry))) ⌝ }
 {
     let at = HEADER + unit * BLOCK + TRANSMITTER;
     let low = cells[at + 3];
@@ -151,10 +152,10 @@ pub fn load_plain(cells: &mut [u16], memory: &[u16], unit: usize) -> bool
     false
 }
 
-// A receiver's move, where it is plain: whether it was.
+// A receiver's move, where it is plain: whether it was. It is then done, and no address is missing.
 pub fn store_plain(cells: &mut [u16], memory: &mut [u16], unit: usize) -> bool
     requires { ⌜ Fitted (now cells) unit × (memoryLength (now cells) unit ≤ length (now memory)) × (R.mayMove (receiverOf (now cells) unit) ≡ true) ⌝ }
-    ensures { λ r. ⌜ _≡_ {A = List ℕ × List ℕ} (now (cells .exit), now (memory .exit)) (pick r (receiverStored (now (cells .entry)) (now (memory .entry)) unit) (now (cells .entry), now (memory .entry))) ⌝ }
+    ensures { λ r. ⌜ _≡_ {A = Move × List ℕ × List ℕ} (Move.Done, now (cells .exit), now (memory .exit)) (pick r (receiverStored (now (cells .entry)) (now (memory .entry)) unit) (Move.Done, now (cells .entry), now (memory .entry))) ⌝ }
 {
     let at = HEADER + unit * BLOCK + RECEIVER;
     let low = cells[at + 3];

@@ -47,6 +47,10 @@ wordPassed r = advanced r (wordMoved (r .end .load) (r .modes .inhibitIncrement)
 abbrev pub doneWith : Receiver → Moved
 doneWith r = record { side = r; answer = Move.Done }
 
+-- "the move must hand it up with its answer 0" (document 02, No. 3): the address tried
+abbrev pub missedAt : Receiver → ℕ → Moved
+missedAt r address = record { side = nonexistent r; answer = Move.Missing address }
+
 -- the oldest word goes to an index of the memory
 abbrev pub wordStored : Receiver → List ℕ → ℕ → Moved × List ℕ
 wordStored r memory at = (doneWith (wordPassed r), set memory at (oldest (r .end .silo)))
@@ -54,7 +58,7 @@ wordStored r memory at = (doneWith (wordPassed r), set memory at (oldest (r .end
 -- to the load's address
 abbrev pub movedTo : Receiver → List ℕ → Place → Moved × List ℕ
 movedTo r memory (Place.Inside at) = wordStored r memory at
-movedTo r memory Place.Outside = (doneWith (nonexistent r), memory)
+movedTo r memory (Place.Outside address) = (missedAt r address, memory)
 
 -- with a memory of so many words, which may be lent with more behind it (reading 33). The conditions of 4 go before BC OFL, and BC OFL
 -- before NXL (reading 30).

@@ -11,7 +11,7 @@ ghost use mathlib.Core.List.{List};
 ghost use Prim.Native.Nat.{ℕ, _≤_, _<_};
 ghost use lib.ListN.{length};
 ghost use Rattle.words.specs.Address.{placeOf};
-ghost use Rattle.receiver.specs.Moves.{mayMove, exceeded, nonexistent, overflowed, advanced, wordPassed, wordStored, moved};
+ghost use Rattle.receiver.specs.Moves.{mayMove, exceeded, nonexistent, missedAt, overflowed, advanced, wordPassed, wordStored, moved};
 ghost use Rattle.receiver.specs.Side.{Within};
 
 pub struct Moved {
@@ -42,6 +42,16 @@ fn miss(r: Receiver) -> Receiver
     let mut faults = r.faults;
     faults.nonexistentLocation = true;
     fail(r, faults)
+}
+
+// NXL, and the address tried with it.
+fn miss_at(r: Receiver, tried: u32) -> Moved
+    ensures { λ x. ⌜ x ≡ missedAt r tried ⌝ }
+{
+    Moved {
+        side: miss(r),
+        answer: Move::Missing(tried),
+    }
 }
 
 // Memory overflow.
@@ -91,7 +101,7 @@ fn store_word(r: Receiver, memory: &mut [u16], at: usize) -> Moved
     }
 }
 
-// The word of a memory of so many words that the load's address names.
+// The word of a memory of so many words that the load's address names, or the address that names none.
 fn find_place(r: Receiver, memory: usize) -> Place
     ensures { λ x. ⌜ x ≡ placeOf (r .end .load .address .0) memory ⌝ }
 {
@@ -118,11 +128,9 @@ pub fn move_word(r: Receiver, memory: &mut [u16], fitted: usize) -> Moved
             answer: Move::Done,
         };
     }
-    let Place::Inside(at) = find_place(r, fitted) else {
-        return Moved {
-            side: miss(r),
-            answer: Move::Done,
-        };
-    };
-    store_word(r, memory, at)
+    let place = find_place(r, fitted);
+    match place {
+        Place::Inside(at) => store_word(r, memory, at),
+        Place::Outside(tried) => miss_at(r, tried),
+    }
 }

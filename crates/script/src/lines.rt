@@ -1,32 +1,37 @@
 // The text of a line.
 use crate::digits::put_byte;
+use crate::digits::put_long_number;
 use crate::digits::put_number;
 ghost use mathlib.Core.List.{List};
 ghost use mathlib.Core.Path.{_≡_};
 ghost use Prim.Native.Nat.{ℕ, _+_, _≤_};
 ghost use lib.ListN.{length};
 ghost use Rattle.script.specs.Put.{Put};
-ghost use Rattle.script.specs.Lines.{start, added, plainLine, valueLine, sliceLine, lineText, linePut};
+ghost use Rattle.script.specs.Lines.{start, added, plainLine, valueLine, sliceLine, missingLine, lineText, linePut};
 
-// A line: what a call was answered, with the values that number 0 brings; or `stop`. A slice's are address, A and B.
+// A line: what a call was answered, with the values that number 0 brings; or `stop`. A slice's are address, A and B. Of a move, the address
+// that was missing.
 pub enum Line {
     Call {
-        kind: u16,
-        number: u16,
+        kind: u32,
+        number: u32,
     },
     Read {
-        number: u16,
-        word: u16,
+        number: u32,
+        word: u32,
     },
     Slice {
-        number: u16,
-        address: u16,
-        a: u16,
-        b: u16,
+        number: u32,
+        address: u32,
+        a: u32,
+        b: u32,
     },
     Level {
-        number: u16,
-        level: u16,
+        number: u32,
+        level: u32,
+    },
+    Missing {
+        address: u32,
     },
     Stop,
 }
@@ -39,7 +44,7 @@ const BLANK: u8 = 32;
 const NEW_LINE: u8 = 10;
 
 // The kind and the number.
-fn put_start(out: &mut [u8], at: usize, kind: u16, number: u16) -> usize
+fn put_start(out: &mut [u8], at: usize, kind: u32, number: u32) -> usize
     requires { ⌜ at + 11 ≤ length (now out) ⌝ }
     ensures { λ r. ⌜ Put (now (out .entry)) at (start kind number) 11 r (now (out .exit)) ⌝ }
 {
@@ -49,7 +54,7 @@ fn put_start(out: &mut [u8], at: usize, kind: u16, number: u16) -> usize
 }
 
 // A value that number 0 brings.
-fn put_value(out: &mut [u8], at: usize, number: u16, value: u16) -> usize
+fn put_value(out: &mut [u8], at: usize, number: u32, value: u32) -> usize
     requires { ⌜ at + 6 ≤ length (now out) ⌝ }
     ensures { λ r. ⌜ Put (now (out .entry)) at (added number value) 6 r (now (out .exit)) ⌝ }
 {
@@ -60,7 +65,7 @@ fn put_value(out: &mut [u8], at: usize, number: u16, value: u16) -> usize
     at
 }
 
-fn put_plain_line(out: &mut [u8], at: usize, kind: u16, number: u16) -> usize
+fn put_plain_line(out: &mut [u8], at: usize, kind: u32, number: u32) -> usize
     requires { ⌜ at + 32 ≤ length (now out) ⌝ }
     ensures { λ r. ⌜ Put (now (out .entry)) at (plainLine kind number) 32 r (now (out .exit)) ⌝ }
 {
@@ -68,7 +73,7 @@ fn put_plain_line(out: &mut [u8], at: usize, kind: u16, number: u16) -> usize
     put_byte(out, end, NEW_LINE)
 }
 
-fn put_value_line(out: &mut [u8], at: usize, kind: u16, number: u16, value: u16) -> usize
+fn put_value_line(out: &mut [u8], at: usize, kind: u32, number: u32, value: u32) -> usize
     requires { ⌜ at + 32 ≤ length (now out) ⌝ }
     ensures { λ r. ⌜ Put (now (out .entry)) at (valueLine kind number value) 32 r (now (out .exit)) ⌝ }
 {
@@ -77,7 +82,7 @@ fn put_value_line(out: &mut [u8], at: usize, kind: u16, number: u16, value: u16)
     put_byte(out, end, NEW_LINE)
 }
 
-fn put_slice_line(out: &mut [u8], at: usize, number: u16, address: u16, a: u16, b: u16) -> usize
+fn put_slice_line(out: &mut [u8], at: usize, number: u32, address: u32, a: u32, b: u32) -> usize
     requires { ⌜ at + 32 ≤ length (now out) ⌝ }
     ensures { λ r. ⌜ Put (now (out .entry)) at (sliceLine number address a b) 32 r (now (out .exit)) ⌝ }
 {
@@ -85,6 +90,16 @@ fn put_slice_line(out: &mut [u8], at: usize, number: u16, address: u16, a: u16, 
     let first = put_value(out, start, number, address);
     let second = put_value(out, first, number, a);
     let end = put_value(out, second, number, b);
+    put_byte(out, end, NEW_LINE)
+}
+
+fn put_missing_line(out: &mut [u8], at: usize, address: u32) -> usize
+    requires { ⌜ at + 32 ≤ length (now out) ⌝ }
+    ensures { λ r. ⌜ Put (now (out .entry)) at (missingLine address) 32 r (now (out .exit)) ⌝ }
+{
+    let start = put_start(out, at, 5, 0);
+    let next = put_byte(out, start, BLANK);
+    let end = put_long_number(out, next, address);
     put_byte(out, end, NEW_LINE)
 }
 
@@ -113,6 +128,7 @@ fn put_text(out: &mut [u8], at: usize, line: Line) -> usize
             b,
         } => put_slice_line(out, at, number, address, a, b),
         Line::Level { number, level } => put_value_line(out, at, 9, number, level),
+        Line::Missing { address } => put_missing_line(out, at, address),
         Line::Stop => put_stop(out, at),
     }
 }

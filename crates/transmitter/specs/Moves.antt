@@ -48,16 +48,20 @@ advanced t word a = pick (a .overflow) (overflowed (gone t word a)) (gone t word
 abbrev pub wordLoaded : Transmitter → ℕ → Transmitter
 wordLoaded t word = advanced t word (wordMoved (t .end .load) (t .modes .inhibitIncrement))
 
--- the word at the load's address
-abbrev pub movedFrom : Transmitter → List ℕ → Place → Transmitter
-movedFrom t memory (Place.Inside at) = wordLoaded t (getD memory at 0)
-movedFrom t memory Place.Outside = nonexistent t
-
 abbrev pub doneWith : Transmitter → Moved
 doneWith t = record { side = t; answer = Move.Done }
+
+-- "the move must hand it up with its answer 0" (document 02, No. 3): the address tried
+abbrev pub missedAt : Transmitter → ℕ → Moved
+missedAt t address = record { side = nonexistent t; answer = Move.Missing address }
+
+-- the word at the load's address
+abbrev pub movedFrom : Transmitter → List ℕ → Place → Moved
+movedFrom t memory (Place.Inside at) = doneWith (wordLoaded t (getD memory at 0))
+movedFrom t memory (Place.Outside address) = missedAt t address
 
 -- with a memory of so many words, which may be lent with more behind it (reading 33). The conditions of 4 go before NXL (reading 30).
 abbrev pub moved : Transmitter → List ℕ → ℕ → Moved
 moved t memory fitted =
     pick (not (mayMove t)) (record { side = t; answer = Move.Nothing })
-    (doneWith (movedFrom t memory (placeOf (t .end .load .address .0) fitted)))
+    (movedFrom t memory (placeOf (t .end .load .address .0) fitted))

@@ -9,7 +9,7 @@ use words::load::Advance;
 ghost use mathlib.Core.Path.{_≡_};
 ghost use Prim.Native.Nat.{_≤_};
 ghost use lib.ListN.{length};
-ghost use Rattle.transmitter.specs.Moves.{mayMove, nonexistent, wordLoaded, overflowed, advanced, moved};
+ghost use Rattle.transmitter.specs.Moves.{mayMove, nonexistent, missedAt, wordLoaded, overflowed, advanced, moved};
 ghost use Rattle.transmitter.specs.Side.{Within};
 
 pub struct Moved {
@@ -38,6 +38,16 @@ fn miss(t: Transmitter) -> Transmitter
     let mut faults = t.faults;
     faults.nonexistentLocation = true;
     fail(t, faults)
+}
+
+// NXL, and the address tried with it.
+fn miss_at(t: Transmitter, tried: u32) -> Moved
+    ensures { λ r. ⌜ r ≡ missedAt t tried ⌝ }
+{
+    Moved {
+        side: miss(t),
+        answer: Move::Missing(tried),
+    }
 }
 
 // Memory overflow.
@@ -89,14 +99,12 @@ pub fn move_word(t: Transmitter, memory: &[u16], fitted: usize) -> Moved
     }
     let load = t.end.load;
     let address = load.address;
-    let Place::Inside(at) = address.place(fitted) else {
-        return Moved {
-            side: miss(t),
+    let place = address.place(fitted);
+    match place {
+        Place::Inside(at) => Moved {
+            side: load_word(t, memory[at]),
             answer: Move::Done,
-        };
-    };
-    Moved {
-        side: load_word(t, memory[at]),
-        answer: Move::Done,
+        },
+        Place::Outside(tried) => miss_at(t, tried),
     }
 }

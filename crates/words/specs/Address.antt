@@ -31,6 +31,7 @@ isLast address = eqb address (2 ^ 18 - 2)
 abbrev pub nextAddress : ℕ → ℕ
 nextAddress address = (address + 2) % 2 ^ 18
 
--- the word that an address names in a memory of so many words, or that it is "outside the memory"
+-- the word that an address names in a memory of so many words; or it is "outside the memory", and then "the 18-bit byte address it tried"
+-- (document 02, No. 3)
 abbrev pub placeOf : ℕ → ℕ → Place
-placeOf address memory = pick (ltb (address / 2) memory) (Inside (address / 2)) Outside
+placeOf address memory = pick (ltb (address / 2) memory) (Inside (address / 2)) (Outside address)

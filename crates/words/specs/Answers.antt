@@ -28,4 +28,11 @@ writeNumber Write.Dropped = 6
 -- 4 nothing to move
 abbrev pub moveNumber : Move → ℕ
 moveNumber Move.Done = 0
+moveNumber (Move.Missing address) = 0
 moveNumber Move.Nothing = 4
+
+-- "the move must hand it up with its answer 0" (document 02, No. 3): the 18-bit byte address tried, and 0 where no address was missing
+abbrev pub moveValue : Move → ℕ
+moveValue Move.Done = 0
+moveValue (Move.Missing address) = address
+moveValue Move.Nothing = 0

@@ -6,6 +6,7 @@ pub mod Crc
 pub mod Halves
 pub mod Lines
 pub mod Load
+pub mod Missing
 pub mod Parity
 pub mod Slices
 pub mod Table

@@ -5,5 +5,6 @@ pub mod CrcLaws
 pub mod CrcSteps
 pub mod LineLaws
 pub mod LoadLaws
+pub mod MissingLaws
 pub mod Registers
 pub mod SliceLaws

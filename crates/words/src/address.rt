@@ -6,10 +6,10 @@ ghost use Rattle.words.specs.Address.{at, addressOf, nextAddress, isLast
 // Below 2^18, and even: it names a word.
 pub struct Address(pub u32);
 
-// Where an address lies in a host memory.
+// Where an address lies in a host memory: at a word of it, or nowhere, and then the 18-bit byte address itself.
 pub enum Place {
     Inside(usize),
-    Outside,
+    Outside(u32),
 }
 
 impl Address {
@@ -50,7 +50,7 @@ impl Address {
         Address((self.0 + 2) % 262144)
     }
 
-    // The word of a memory of so many words that the address names.
+    // The word of a memory of so many words that the address names, or the address that names none.
     pub fn place(self, memory: usize) -> Place
         ensures { λ r. ⌜ r ≡ placeOf (self .0) memory ⌝ }
     {
@@ -58,7 +58,7 @@ impl Address {
         if word < memory {
             Place::Inside(word)
         } else {
-            Place::Outside
+            Place::Outside(self.0)
         }
     }
 }

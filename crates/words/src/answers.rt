@@ -16,9 +16,10 @@ pub enum Write {
     Dropped,
 }
 
-// What a memory move is answered.
+// What a memory move is answered: done, or that its address was missing, which is the 18-bit byte address tried, or nothing to move.
 pub enum Move {
     Done,
+    Missing(u32),
     Nothing,
 }
 

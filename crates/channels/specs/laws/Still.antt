@@ -56,10 +56,10 @@ module _ (t : Transmitter) where
   pub still-period : Still t (TP.periodPassed t)
   still-period = either (Still t) (t .end .mark && T.isBusy t) (λ e. still-same) (λ e. still-same)
 
-  still-from : (memory : List ℕ) (p : Place) → Still t (TM.movedFrom t memory p)
+  still-from : (memory : List ℕ) (p : Place) → Still t (TM.movedFrom t memory p .side)
   still-from memory (Place.Inside at) =
       either (Still t) (wordMoved (t .end .load) (t .modes .inhibitIncrement) .overflow) (λ e. still-same) (λ e. still-same)
-  still-from memory Place.Outside = still-same
+  still-from memory (Place.Outside address) = still-same
 
   pub still-moved : (memory : List ℕ) (fitted : ℕ) → Still t (TM.moved t memory fitted .side)
   still-moved memory fitted =
@@ -116,7 +116,7 @@ module _ (r : Receiver) where
 
   there-to : (memory : List ℕ) (p : Place) → StillThere r (RM.movedTo r memory p .0 .side)
   there-to memory (Place.Inside at) = there-passed
-  there-to memory Place.Outside = there-same
+  there-to memory (Place.Outside address) = there-same
 
   pub there-moved : (memory : List ℕ) (fitted : ℕ) → StillThere r (RM.moved r memory fitted .0 .side)
   there-moved memory fitted =

@@ -2,19 +2,21 @@
 -- Assumes nothing.
 use mathlib.Core.Bool.{Bool, true, false, not, _&&_}
 use mathlib.Core.List.{List}
-use mathlib.Core.Path.{_≡_, refl}
+use mathlib.Core.Path.{_≡_, refl, ap, sym, _∙_}
 use Prim.Native.Nat.{ℕ, _-_, _/_, _^_, _<_}
 use native.Mathlib.Omega.{arith}
 use borrow.Author.Tests.{lt-ltb}
 use lib.ListN.{getD}
 use Rattle.laws.specs.Pick.{pick}
 use Rattle.silos.specs.Silo.{hasRoom}
-use Rattle.transmitter.specs.Moves.{mayMove, moved, gone, movedFrom, doneWith}
+use Rattle.transmitter.specs.Moves.{mayMove, moved, gone, movedFrom}
 use Rattle.transmitter.specs.Side.{hasError}
 use Rattle.transmitter.specs.declared.moves.Moved.{Moved}
 use Rattle.transmitter.specs.declared.side.Transmitter.{Transmitter}
 use Rattle.words.specs.Address.{placeOf}
+use Rattle.words.specs.Answers.{moveNumber}
 use Rattle.words.specs.Load.{Bounded, wordMoved}
+use Rattle.words.specs.declared.address.Place.{Place}
 use Rattle.words.specs.declared.answers.Move.{Move}
 use Rattle.delivery.specs.laws.Loads.{no-overflow}
 
@@ -36,13 +38,18 @@ loaded-and-room t =
     may-loaded (t .modes .memoryRequests) (t .end .load .loaded) (not (hasError t)) (hasRoom 64 (t .end .silo)) (not (t .modes .readSilo))
     (not (t .channel .ending))
 
-answered-4 : (may : Bool) (t : Transmitter) (m : Moved) → m .answer ≡ Move.Done
+answered-4 : (may : Bool) (t : Transmitter) (m : Moved) → moveNumber (m .answer) ≡ 0
     → pick (not may) (record { side = t; answer = Move.Nothing }) m .answer ≡ Move.Nothing → may ≡ false
-answered-4 true t m done e = absurd (let z : _≡_ {A = ℕ} 0 1 = cc in omega arith)
+answered-4 true t m done e = absurd (omega (arith, sym done ∙ ap moveNumber e))
 answered-4 false t m done e = refl
 
+done-from : (t : Transmitter) (memory : List ℕ) (p : Place) → moveNumber (movedFrom t memory p .answer) ≡ 0
+done-from t memory (Place.Inside at) = refl
+done-from t memory (Place.Outside address) = refl
+
 pub until-4 : (t : Transmitter) (memory : List ℕ) (length : ℕ) → moved t memory length .answer ≡ Move.Nothing → mayMove t ≡ false
-until-4 t memory length e = answered-4 (mayMove t) t (doneWith (movedFrom t memory (placeOf (t .end .load .address .0) length))) refl e
+until-4 t memory length e =
+    let p = placeOf (t .end .load .address .0) length in answered-4 (mayMove t) t (movedFrom t memory p) (done-from t memory p) e
 
 -- a move inside the memory, with INH ADI clear, short of byte 777776
 abbrev pub after : Transmitter → List ℕ → Transmitter

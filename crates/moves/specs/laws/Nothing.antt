@@ -2,11 +2,11 @@
 -- Assumes nothing.
 use mathlib.Core.Bool.{Bool, true, false, not, true≢false}
 use mathlib.Core.List.{List}
-use mathlib.Core.Path.{_≡_, refl, ap, sym, _∙_}
+use mathlib.Core.Path.{_≡_, refl, sym, _∙_}
 use Prim.Native.Nat.{ℕ}
 use Rattle.cells.specs.Fitted.{transmitterOf, receiverOf}
 use Rattle.cells.specs.Layout.{memoryLength}
-use Rattle.laws.specs.Pick.{by, either, past}
+use Rattle.laws.specs.Pick.{by, either}
 use Rattle.receiver.specs.Moves as R
 use Rattle.receiver.specs.declared.moves.Moved as RM
 use Rattle.receiver.specs.declared.side.Receiver.{Receiver}
@@ -18,37 +18,33 @@ use Rattle.words.specs.declared.address.Place.{Place}
 use Rattle.words.specs.declared.answers.Move.{Move}
 use Rattle.moves.specs.Moving.{transmitterMoved, receiverMoved}
 
+-- answered 0, also where the move only set an error bit
 abbrev pub hasMoved : Move → Bool
 hasMoved Move.Done = true
+hasMoved (Move.Missing address) = true
 hasMoved Move.Nothing = false
 
 -- ---- the rules: 4 only where the side may not move
 
+loaded : (t : Transmitter) (memory : List ℕ) (p : Place) → hasMoved (T.movedFrom t memory p .answer) ≡ true
+loaded t memory (Place.Inside at) = refl
+loaded t memory (Place.Outside address) = refl
+
 transmitter-may-not : (t : Transmitter) (memory : List ℕ) (fitted : ℕ) → hasMoved (T.moved t memory fitted .answer) ≡ false → not (T.mayMove t) ≡ true
 transmitter-may-not t memory fitted =
-    either (λ (m : TM.Moved). hasMoved (m .answer) ≡ false → not (T.mayMove t) ≡ true) (not (T.mayMove t)) (λ e h. e) (λ e h. absurd (true≢false h))
+    either (λ (m : TM.Moved). hasMoved (m .answer) ≡ false → not (T.mayMove t) ≡ true) (not (T.mayMove t)) (λ e h. e)
+    (λ e h. absurd (true≢false (sym (loaded t memory (placeOf (t .end .load .address .0) fitted)) ∙ h)))
 
-stored : (r : Receiver) (memory : List ℕ) (p : Place) → R.movedTo r memory p .0 .answer ≡ Move.Done
+stored : (r : Receiver) (memory : List ℕ) (p : Place) → hasMoved (R.movedTo r memory p .0 .answer) ≡ true
 stored r memory (Place.Inside at) = refl
-stored r memory Place.Outside = refl
+stored r memory (Place.Outside address) = refl
 
 receiver-may-not : (r : Receiver) (memory : List ℕ) (fitted : ℕ) → hasMoved (R.moved r memory fitted .0 .answer) ≡ false → not (R.mayMove r) ≡ true
 receiver-may-not r memory fitted =
     let P : RM.Moved × List ℕ → Type 0 = λ p. hasMoved (p .0 .answer) ≡ false → not (R.mayMove r) ≡ true in
     either P (not (R.mayMove r)) (λ e h. e)
     (λ e. either P (not (r .end .load .loaded)) (λ e h. absurd (true≢false h))
-    (λ e h. absurd (true≢false (sym (ap hasMoved (stored r memory (placeOf (r .end .load .address .0) fitted))) ∙ h))))
-
--- and where it may, the move is done
-
-pub transmitter-done : (t : Transmitter) (memory : List ℕ) (fitted : ℕ) → not (T.mayMove t) ≡ false → T.moved t memory fitted .answer ≡ Move.Done
-transmitter-done t memory fitted may = ap (λ (m : TM.Moved). m .answer) (sym (past _ may refl))
-
-pub receiver-done : (r : Receiver) (memory : List ℕ) (fitted : ℕ) → not (R.mayMove r) ≡ false → R.moved r memory fitted .0 .answer ≡ Move.Done
-receiver-done r memory fitted may =
-    let P : RM.Moved × List ℕ → Type 0 = λ p. p .0 .answer ≡ Move.Done in
-    ap (λ (m : RM.Moved × List ℕ). m .0 .answer) (sym (past _ may refl))
-    ∙ either P (not (r .end .load .loaded)) (λ e. refl) (λ e. stored r memory (placeOf (r .end .load .address .0) fitted))
+    (λ e h. absurd (true≢false (sym (stored r memory (placeOf (r .end .load .address .0) fitted)) ∙ h))))
 
 -- ---- on the cells
 

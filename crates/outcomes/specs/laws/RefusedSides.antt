@@ -30,6 +30,7 @@ use Rattle.outcomes.specs.Unchanged.{leavesAll}
 -- 4 is the answer of a move that has nothing to move, and changes nothing (`moves`, Nothing)
 pub nothing : (m : Move) → leavesAll (moveNumber m) ≡ true → hasMoved m ≡ false
 nothing Move.Done h = absurd (false≢true h)
+nothing (Move.Missing address) h = absurd (false≢true h)
 nothing Move.Nothing h = refl
 
 abbrev ReadDone : Read → Type 0

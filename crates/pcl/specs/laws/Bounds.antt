@@ -1,8 +1,9 @@
--- A slice's address is below 32, and its codes are below 4: they fit in the bits that a packed answer has for them.
+-- A slice's address is below 32, and its codes are below 4, and an address that a move missed has 18 bits: they fit in the bits that a packed
+-- answer has for them.
 -- Assumes nothing.
 use mathlib.Core.Bool.{Bool}
 use mathlib.Core.List.{List}
-use Prim.Native.Nat.{ℕ, _-_, _<_}
+use Prim.Native.Nat.{ℕ, _-_, _^_, _<_}
 use native.Mathlib.Omega.{arith}
 use borrow.Author.Tests.{eqb-false}
 use lib.Dec.{eqb, ltb, lit<}
@@ -19,6 +20,7 @@ use Rattle.cells.specs.Search.{firstTransmitter, firstReceiver}
 use Rattle.laws.specs.Pick.{either}
 use Rattle.master.specs.laws.Laws.{next-lt}
 use Rattle.master.specs.Section.{nextOf}
+use Rattle.moves.specs.laws.Missing.{transmitter-short, receiver-short}
 use Rattle.receiver.specs.declared.side.Receiver.{Receiver}
 use Rattle.sending.specs.Choice.{actsOn, chosen, sentBy, destinationOf}
 use Rattle.sending.specs.laws.Keeps.{code-lt as sent-lt}
@@ -27,10 +29,15 @@ use Rattle.slices.specs.declared.Alone.{Alone}
 use Rattle.slices.specs.declared.Pair.{Pair}
 use Rattle.transmitter.specs.declared.side.Transmitter.{Transmitter}
 use Rattle.words.specs.Lines.{damaged}
+use Rattle.words.specs.declared.answers.Move.{Move}
 use Rattle.words.specs.declared.codes.Codes.{Codes}
 use Rattle.pcl.specs.Link.{sliceCall}
-use Rattle.pcl.specs.laws.Cases.{slice-cases}
-use Rattle.pcl.specs.laws.Narrow.{Narrow, NarrowSlot, NarrowCall}
+use Rattle.pcl.specs.Face.{moveFace}
+use Rattle.pcl.specs.Numbers.{movePacked}
+use Rattle.pcl.specs.Sides.{moveCall}
+use Rattle.pcl.specs.laws.Cases.{slice-cases, move-cases}
+use Rattle.pcl.specs.laws.Narrow.{Narrow, NarrowSlot, NarrowCall, ShortCall}
+use Rattle.pcl.specs.declared.answers.MoveCall.{MoveCall}
 use Rattle.pcl.specs.declared.answers.SliceCall.{SliceCall}
 
 abbrev Small : Codes → Type 0
@@ -81,3 +88,19 @@ narrow cells mask parity =
     let there : u < countIn cells = omega (arith, eqb-false (holderIn cells) 0 some) in
     let m = masterOf cells u in
     served-narrow (putMaster cells u (nextOf m .side)) mask (eqb parity 1) (nextOf m .address) (next-lt m (master-within cells u (fitted cells ok u there)))))
+
+-- of every move call, whatever it was lent
+pub short : (cells memory : List ℕ) (unit side : ℕ) → ShortCall (moveCall cells memory unit side .0)
+short cells memory unit side =
+    move-cases cells (λ (p : MoveCall × List ℕ × List ℕ). ShortCall (p .0)) memory unit side tt tt
+    (λ ok there. transmitter-short cells memory unit (fitted cells ok unit there)) (λ ok there. receiver-short cells memory unit (fitted cells ok unit there))
+
+packed-lt : (c : MoveCall) → ShortCall c → movePacked c < 2 ^ 34
+packed-lt MoveCall.BadState fits = lit< tt
+packed-lt MoveCall.NoUnit fits = lit< tt
+packed-lt (MoveCall.Side Move.Done) fits = lit< tt
+packed-lt (MoveCall.Side (Move.Missing address)) fits = omega (arith, fits .1)
+packed-lt (MoveCall.Side Move.Nothing) fits = lit< tt
+
+pub move-packed-lt : (cells memory : List ℕ) (unit side : ℕ) → moveFace cells memory unit side .0 < 2 ^ 34
+move-packed-lt cells memory unit side = packed-lt (moveCall cells memory unit side .0) (short cells memory unit side)

@@ -1,4 +1,4 @@
--- Packing, part by part: what a register gave, and what a slice gave. And a call for C: the number is the call's, packed, and all else is
+-- Packing, part by part: what a register gave, what a move gave, and what a slice gave. And a call for C: the number is the call's, packed, and all else is
 -- as the call leaves it.
 -- Assumes nothing.
 use mathlib.Core.List.{List}
@@ -6,15 +6,19 @@ use mathlib.Core.Path.{_≡_, ap, _∙_}
 use Prim.Native.Nat.{ℕ, _+_, _*_}
 use Rattle.bus.specs.declared.slice.Given.{Given}
 use Rattle.bus.specs.declared.slice.Slot.{Slot}
-use Rattle.words.specs.Answers.{readNumber, readWord}
+use Rattle.words.specs.Answers.{readNumber, readWord, moveNumber, moveValue}
+use Rattle.words.specs.declared.answers.Move.{Move}
 use Rattle.words.specs.declared.answers.Read.{Read}
 use Rattle.pcl.specs.Face.{packed, packedMove}
-use Rattle.pcl.specs.Numbers.{slotNumber, givenValue, slotValue, levelPacked, moveCallNumber}
+use Rattle.pcl.specs.Numbers.{slotNumber, givenValue, slotValue, levelPacked, movePacked}
 use Rattle.pcl.specs.declared.answers.LevelCall.{LevelCall}
 use Rattle.pcl.specs.declared.answers.MoveCall.{MoveCall}
 
 abbrev pub foundPacked : Read → ℕ
 foundPacked r = readNumber r + readWord r * 65536
+
+abbrev pub movedPacked : Move → ℕ
+movedPacked m = moveNumber m + moveValue m * 65536
 
 abbrev pub givenPacked : Given → ℕ
 givenPacked g = givenValue g * 65536
@@ -26,7 +30,7 @@ pub packed-as : {A : Type 0} (number : A → ℕ) {n : ℕ} {answer : A} {after 
     → _≡_ {A = A × List ℕ} (answer, after) outcome → _≡_ {A = ℕ × List ℕ} (n, after) (packed number outcome)
 packed-as number {after = after} e f = ap (λ (k : ℕ). (k, after)) e ∙ ap (packed number) f
 
-pub packed-move : (n : ℕ) (answer : MoveCall) (cells memory : List ℕ) (outcome : MoveCall × List ℕ × List ℕ) → n ≡ moveCallNumber answer
+pub packed-move : (n : ℕ) (answer : MoveCall) (cells memory : List ℕ) (outcome : MoveCall × List ℕ × List ℕ) → n ≡ movePacked answer
     → _≡_ {A = MoveCall × List ℕ × List ℕ} (answer, cells, memory) outcome → _≡_ {A = ℕ × List ℕ × List ℕ} (n, cells, memory) (packedMove outcome)
 packed-move n answer cells memory outcome e f = rw e (ap packedMove f)
 

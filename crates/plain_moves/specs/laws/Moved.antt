@@ -26,7 +26,6 @@ use Rattle.silos.specs.declared.Silo.{Silo}
 use Rattle.transmitter.specs.Fields.{withMemoryRequests}
 use Rattle.transmitter.specs.Groups as TG
 use Rattle.transmitter.specs.Moves as T
-use Rattle.transmitter.specs.declared.moves.Moved as TM
 use Rattle.transmitter.specs.declared.side.Modes.{Modes}
 use Rattle.transmitter.specs.declared.side.Transmitter.{Transmitter}
 use Rattle.words.specs.Address.{at, placeOf}
@@ -106,15 +105,16 @@ module _ (held block own low count control status crc : ℕ) (silo : List ℕ) w
     module _ (low15 : low < 32767) (count15 : count < 32767) (loaded : bitAt control 1 ≡ true) (goes : bitAt control 2 ≡ false) (memory : List ℕ) (fitted : ℕ)
         (there : wordAt low control < fitted) where
       pub transmitter-moved : T.mayMove (decTransmitter before) ≡ true → bitAt control 14 ≡ true → held < 64
-          → T.moved (decTransmitter before) memory fitted .side ≡ decTransmitter (oneMore (getD memory (wordAt low control) 0))
+          → T.moved (decTransmitter before) memory fitted ≡ T.doneWith (decTransmitter (oneMore (getD memory (wordAt low control) 0)))
       transmitter-moved may requests room =
           let t = decTransmitter before in
           let word = getD memory (wordAt low control) 0 in
           let m : bitAt control 14 && bitAt control 1 ≡ bitAt control 14 = rw (requests, loaded) in
-          ap (λ (m : TM.Moved). m .side) (sym (past _ (ap not may) refl))
+          sym (past _ (ap not may) refl)
           ∙ ap (T.movedFrom t memory) (inside low count control low15 count15 fitted there)
-          ∙ ap (T.advanced t word) (advanced low count control low15 count15 loaded goes)
-          ∙ same-sender t (loadOf (low + 1) (count + 1) control) (silo-put word room) (ap (withMemoryRequests (t .modes)) m)
+          ∙ ap T.doneWith
+          (ap (T.advanced t word) (advanced low count control low15 count15 loaded goes)
+          ∙ same-sender t (loadOf (low + 1) (count + 1) control) (silo-put word room) (ap (withMemoryRequests (t .modes)) m))
 
       pub receiver-moved : R.mayMove (decReceiver before) ≡ true → 1 ≤ held → held ≤ 64
           → R.moved (decReceiver before) memory fitted ≡ (R.doneWith (decReceiver oneFewer), set memory (wordAt low control) (getD silo 0 0))

@@ -19,6 +19,8 @@ use Rattle.receiver.specs.Moves as R
 use Rattle.receiver.specs.declared.moves.Moved as RM
 use Rattle.silos.specs.Cells.{shifted}
 use Rattle.transmitter.specs.Moves as T
+use Rattle.transmitter.specs.declared.moves.Moved as TM
+use Rattle.words.specs.declared.answers.Move.{Move}
 use Rattle.plain_moves.specs.Moving.{Plain, wordAt, headMoved}
 use Rattle.plain.specs.laws.Heads.{head-and-silo}
 use Rattle.plain_moves.specs.laws.MayMove.{may-out, may-in}
@@ -61,6 +63,13 @@ plain-says block own limit low count control busy ok =
 same-pair : {a a' b b' : List ℕ} → a ≡ a' → b ≡ b' → _≡_ {A = List ℕ × List ℕ} (a, b) (a', b')
 same-pair a b = rw (a, b)
 
+-- the answer and the cells of the side that a rule gives, and for a receiver the memory
+abbrev pub answered : TM.Moved → Move × List ℕ
+answered m = (m .answer, encTransmitter (m .side))
+
+abbrev pub answeredThere : RM.Moved × List ℕ → Move × List ℕ × List ℕ
+answeredThere m = (m .0 .answer, encReceiver (m .0 .side), m .1)
+
 -- ---- over numbers
 
 module _ (held block own low count control status crc : ℕ) (silo : List ℕ) where
@@ -92,17 +101,18 @@ module _ (held block own low count control status crc : ℕ) (silo : List ℕ) w
       (there : wordAt low control < fitted) where
     pub out-moved : Plain block own 32 low count control (bitAt control 13 || bitAt status 6) → (status / 2 ^ 8 % 2 ≡ 1 → ⊥) → status < 2 ^ 15
         → T.mayMove (decTransmitter before) ≡ true
-        → encTransmitter (T.moved (decTransmitter before) memory fitted .side)
-        ≡ oneMore held block own low count control status crc silo (getD memory (wordAt low control) 0)
+        → _≡_ {A = Move × List ℕ} (answered (T.moved (decTransmitter before) memory fitted))
+        (Move.Done, oneMore held block own low count control status crc silo (getD memory (wordAt low control) 0))
     out-moved p going settled may =
         let room = out-says may .1 in
         let word = getD memory (wordAt low control) 0 in
         let e : bitAt status 8 ≡ false = ne-eqb (bits status 8 1) 1 going in
         let a : bitAt status 15 ≡ false = ne-eqb (bits status 15 1) 1 (omega arith) in
-        ap encTransmitter (transmitter-moved held block own low count control status crc silo cells64 (p .low15) (p .count15) (p .loaded) (p .goes) memory fitted there may (out-says may .0) room)
-        ∙ transmitter-kept (held + 1) block own (low + 1) (count + 1) control status crc (set silo held word)
+        ap answered (transmitter-moved held block own low count control status crc silo cells64 (p .low15) (p .count15) (p .loaded) (p .goes) memory fitted there may (out-says may .0) room)
+        ∙ ap (λ (l : List ℕ). (Move.Done, l))
+        (transmitter-kept (held + 1) block own (low + 1) (count + 1) control status crc (set silo held word)
         (record { most = omega arith; since = p .since; low15 = omega arith; count15 = omega arith; control16 = control16; status16 = status16; crc16 = crc16; cells64 = length-set silo held word ∙ cells64 })
-        (p .single) (p .marked) (rw e) (rw a)
+        (p .single) (p .marked) (rw e) (rw a))
 
     pub in-moved : Plain block own 1 low count control (bitAt status 4) → held ≤ 64 → R.mayMove (decReceiver before) ≡ true
         → R.moved (decReceiver before) memory fitted ≡ (R.doneWith (decReceiver (oneFewer held block own low count control status crc silo)), set memory (wordAt low control) (getD silo 0 0))
@@ -153,18 +163,19 @@ module _ (cells : List ℕ) (at : ℕ) (fits : at + 72 ≤ length cells) where
   module _ (words : (i : ℕ) → cell cells i < 2 ^ 16) (memory : List ℕ) (fitted : ℕ) (there : wordAt low control < fitted) where
     pub out-plain : Plain (cell cells (at + 1)) (cell cells (at + 2)) 32 low (cell cells (at + 4)) control (bitAt control 13 || bitAt status 6)
         → (status / 2 ^ 8 % 2 ≡ 1 → ⊥) → status < 2 ^ 15 → T.mayMove (transmitterAt cells at) ≡ true
-        → encTransmitter (T.moved (transmitterAt cells at) memory fitted .side) ≡ headMoved cells at (held + 1) ++ set silo held (getD memory (wordAt low control) 0)
+        → _≡_ {A = Move × List ℕ} (answered (T.moved (transmitterAt cells at) memory fitted))
+        (Move.Done, headMoved cells at (held + 1) ++ set silo held (getD memory (wordAt low control) 0))
     out-plain p going settled may =
         let same = head-and-silo cells at fits in
-        ap (λ (w : List ℕ). encTransmitter (T.moved (decTransmitter w) memory fitted .side)) same
+        ap (λ (w : List ℕ). answered (T.moved (decTransmitter w) memory fitted)) same
         ∙ out-moved held (cell cells (at + 1)) (cell cells (at + 2)) low (cell cells (at + 4)) control status (cell cells (at + 7)) silo
         (words (at + 5)) (words (at + 6)) (words (at + 7)) cells64 memory fitted there p going settled
         (ap (λ (w : List ℕ). T.mayMove (decTransmitter w)) (sym same) ∙ may)
 
     pub in-plain : Plain (cell cells (at + 1)) (cell cells (at + 2)) 1 low (cell cells (at + 4)) control (bitAt status 4)
         → held ≤ 64 → R.mayMove (receiverAt cells at) ≡ true
-        → _≡_ {A = List ℕ × List ℕ} (encReceiver (R.moved (receiverAt cells at) memory fitted .0 .side), R.moved (receiverAt cells at) memory fitted .1)
-        (headMoved cells at (held - 1) ++ shifted silo, set memory (wordAt low control) (cell cells (at + 8)))
+        → _≡_ {A = Move × List ℕ × List ℕ} (answeredThere (R.moved (receiverAt cells at) memory fitted))
+        (Move.Done, headMoved cells at (held - 1) ++ shifted silo, set memory (wordAt low control) (cell cells (at + 8)))
     in-plain p most may =
         let same = head-and-silo cells at fits in
         let z : at + 8 + 0 ≡ at + 8 = omega arith in
@@ -175,6 +186,6 @@ module _ (cells : List ℕ) (at : ℕ) (fits : at + 72 ≤ length cells) where
         let kept =
         in-kept held (cell cells (at + 1)) (cell cells (at + 2)) low (cell cells (at + 4)) control status (cell cells (at + 7)) silo
         (words (at + 5)) (words (at + 6)) (words (at + 7)) cells64 memory fitted there p most in
-        ap (λ (w : List ℕ). (encReceiver (R.moved (decReceiver w) memory fitted .0 .side), R.moved (decReceiver w) memory fitted .1)) same
-        ∙ ap (λ (m : RM.Moved × List ℕ). (encReceiver (m .0 .side), m .1)) moved
-        ∙ same-pair kept (ap (set memory (wordAt low control)) first)
+        ap (λ (w : List ℕ). answeredThere (R.moved (decReceiver w) memory fitted)) same
+        ∙ ap answeredThere moved
+        ∙ ap (λ (l : List ℕ × List ℕ). (Move.Done, l .0, l .1)) (same-pair kept (ap (set memory (wordAt low control)) first))

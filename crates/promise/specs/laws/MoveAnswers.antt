@@ -29,6 +29,7 @@ use Rattle.promise.specs.World.{World, move, numberOf}
 
 nothing : (a : Move) → moveNumber a ≡ 4 → a ≡ Move.Nothing
 nothing Move.Done e = absurd (omega arith)
+nothing (Move.Missing address) e = absurd (omega arith)
 nothing Move.Nothing e = refl
 
 module _ (cells memory : List ℕ) (unit : ℕ) where

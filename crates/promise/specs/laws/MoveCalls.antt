@@ -42,7 +42,7 @@ module _ (cells : List ℕ) (ok : inRange cells ≡ true) (memory : List ℕ) (u
 
 placed : (r : Receiver) (memory : List ℕ) (place : Place) → length (R.movedTo r memory place .1) ≡ length memory
 placed r memory (Place.Inside at) = length-set memory at (oldest (r .end .silo))
-placed r memory Place.Outside = refl
+placed r memory (Place.Outside address) = refl
 
 length-moved : (r : Receiver) (memory : List ℕ) (n : ℕ) → length (R.moved r memory n .1) ≡ length memory
 length-moved r memory n =

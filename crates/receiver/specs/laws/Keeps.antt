@@ -13,7 +13,7 @@ use Rattle.words.specs.Address.{placeOf}
 use Rattle.words.specs.Load.{wordMoved}
 use Rattle.words.specs.laws.LoadLaws.{bounded-moved}
 use Rattle.words.specs.declared.address.Place.{Place}
-use Rattle.receiver.specs.Fields.{withByteCountOverflow, withTimeOut, withMemoryOverflow, withNonexistentLocation}
+use Rattle.receiver.specs.Fields.{withByteCountOverflow, withTimeOut, withMemoryOverflow}
 use Rattle.receiver.specs.Groups.{withFaults, withMark}
 use Rattle.receiver.specs.Moves.{mayMove, gone, wordPassed, movedTo, moved}
 use Rattle.receiver.specs.Periods.{periodPassed}
@@ -65,7 +65,7 @@ module _ (r : Receiver) (h : Within r) where
 
   within-to : (memory : List ℕ) (p : Place) → Within (movedTo r memory p .0 .side)
   within-to memory (Place.Inside at) = within-passed
-  within-to memory Place.Outside = within-failed r h (withNonexistentLocation (r .faults) true)
+  within-to memory (Place.Outside address) = within-failed r h _
 
   pub within-moved : (memory : List ℕ) (fitted : ℕ) → Within (moved r memory fitted .0 .side)
   within-moved memory fitted =

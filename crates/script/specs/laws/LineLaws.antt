@@ -1,14 +1,14 @@
 -- A number's text, read as decimal, is the number.
 -- Assumes nothing.
 use mathlib.Core.List.{List, [], _∷_, _++_}
-use mathlib.Core.Path.{_≡_, ap, _∙_}
+use mathlib.Core.Path.{_≡_, refl, ap, _∙_}
 use Prim.Native.Nat.{ℕ, _+_, _-_, _*_, _/_, _^_, _<_}
 use native.Mathlib.Nat.{div-eq-of-lt}
 use native.Mathlib.Omega.{arith}
 use borrow.Author.Tests.{ltb-true}
 use lib.Dec.{ltb}
 use Rattle.laws.specs.Pick.{by}
-use Rattle.script.specs.Lines.{digit, place, decimal}
+use Rattle.script.specs.Lines.{digit, place, decimal, longDecimal}
 
 -- the number that a text goes on to, from what stands before it
 abbrev pub valueFrom : ℕ → List ℕ → ℕ
@@ -30,14 +30,22 @@ one-place n unit e =
     rw (less, e, zero))
     (λ more. rw (more, e) (one-digit (n / unit)))
 
-pub decimal-value : (n : ℕ) → n < 2 ^ 16 → valueFrom 0 (decimal n) ≡ n
+-- the last five digits, from what stands above them
+five-digits : (n k : ℕ) → k ≡ n / 100000 → valueFrom k (decimal n) ≡ n
 unfolding decimal
-decimal-value n h =
+five-digits n k above =
     let p = place n 10000 in
     let q = p ++ place n 1000 in
     let r = q ++ place n 100 in
-    let first : valueFrom 0 p ≡ n / 10000 = one-place n 10000 (omega arith) in
-    let second : valueFrom 0 q ≡ n / 1000 = after 0 p (place n 1000) first ∙ one-place n 1000 (omega arith) in
-    let third : valueFrom 0 r ≡ n / 100 = after 0 q (place n 100) second ∙ one-place n 100 (omega arith) in
-    let fourth : valueFrom 0 (r ++ place n 10) ≡ n / 10 = after 0 r (place n 10) third ∙ one-place n 10 (omega arith) in
-    after 0 (r ++ place n 10) (digit n ∷ []) fourth ∙ one-digit n
+    let first : valueFrom k p ≡ n / 10000 = one-place n 10000 (omega arith) in
+    let second : valueFrom k q ≡ n / 1000 = after k p (place n 1000) first ∙ one-place n 1000 (omega arith) in
+    let third : valueFrom k r ≡ n / 100 = after k q (place n 100) second ∙ one-place n 100 (omega arith) in
+    let fourth : valueFrom k (r ++ place n 10) ≡ n / 10 = after k r (place n 10) third ∙ one-place n 10 (omega arith) in
+    after k (r ++ place n 10) (digit n ∷ []) fourth ∙ one-digit n
+
+pub decimal-value : (n : ℕ) → n < 2 ^ 16 → valueFrom 0 (decimal n) ≡ n
+decimal-value n h = five-digits n 0 (omega arith)
+
+pub long-value : (n : ℕ) → n < 2 ^ 18 → valueFrom 0 (longDecimal n) ≡ n
+unfolding longDecimal
+long-value n h = after 0 (place n 100000) (decimal n) (one-place n 100000 (omega arith)) ∙ five-digits n (n / 100000) refl

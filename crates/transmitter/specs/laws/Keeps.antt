@@ -16,7 +16,7 @@ use Rattle.words.specs.Load.{wordMoved}
 use Rattle.words.specs.laws.LoadLaws.{bounded-moved}
 use Rattle.words.specs.declared.address.Place.{Place}
 use Rattle.transmitter.specs.Down.{missesMaster, masterMissed}
-use Rattle.transmitter.specs.Fields.{withTimeOut, withMasterDown, withMemoryOverflow, withNonexistentLocation}
+use Rattle.transmitter.specs.Fields.{withTimeOut, withMasterDown, withMemoryOverflow}
 use Rattle.transmitter.specs.Groups.{withFaults, withMark}
 use Rattle.transmitter.specs.Moves.{mayMove, gone, wordLoaded, movedFrom, moved}
 use Rattle.transmitter.specs.Periods.{periodPassed}
@@ -75,9 +75,9 @@ module _ (t : Transmitter) (h : Within t) where
       let a = wordMoved (t .end .load) (t .modes .inhibitIncrement) in
       either Within (a .overflow) (λ e. within-failed (gone t word a) (went word) (withMemoryOverflow (gone t word a .faults) true)) (λ e. went word)
 
-  within-from : (memory : List ℕ) (p : Place) → Within (movedFrom t memory p)
+  within-from : (memory : List ℕ) (p : Place) → Within (movedFrom t memory p .side)
   within-from memory (Place.Inside at) = within-loaded (getD memory at 0)
-  within-from memory Place.Outside = within-failed t h (withNonexistentLocation (t .faults) true)
+  within-from memory (Place.Outside address) = within-failed t h _
 
   pub within-moved : (memory : List ℕ) (fitted : ℕ) → Within (moved t memory fitted .side)
   within-moved memory fitted =

@@ -1,13 +1,11 @@
 -- Nothing to move, the plain move, or the move by value.
 use borrow.Author.Needs.{needs}
 use borrow.Author.Tests.{not-false}
-use mathlib.Core.Path.{refl, ap, sym}
-use Rattle.cells.specs.Fitted.{transmitterOf}
-use Rattle.cells.specs.Layout.{memoryLength}
+use mathlib.Core.List.{List}
+use mathlib.Core.Path.{refl, ap}
+use Prim.Native.Nat.{ℕ}
 use Rattle.laws.specs.Pick.{past, here}
-use Rattle.plain_moves.specs.Moving.{transmitterLoaded}
 use Rattle.words.specs.declared.answers.Move.{Move}
-use Rattle.moves.specs.laws.Nothing.{transmitter-done}
 use Rattle.moves.proofs.moving.move_transmitter.Statement.{statement}
 use Rattle.moves.proofs.moving.move_transmitter.Tie as tie
 
@@ -22,23 +20,18 @@ load-plain-requires c κs =
 returns-2 : tie.Need-returns-2
 returns-2 c =
     let tested = c .before .before .before .before .before in
-    let a = tested .before .before .before .before .before .args in
-    let may = rw (tested .before .may-move-out .ensures) at (tested .if1 .left) in
-    past _ may
-    (rw (c .before .before .before .load-plain .ensures, c .if2 .taken)
-    (ap (λ (m : Move). (m, transmitterLoaded (a .cells .now) (a .memory .now) (a .unit)))
-    (sym (transmitter-done (transmitterOf (a .cells .now) (a .unit)) (a .memory .now) (memoryLength (a .cells .now) (a .unit)) may))))
+    past _ (rw (tested .before .may-move-out .ensures) at (tested .if1 .left)) (rw (c .if2 .taken) at (c .before .before .before .load-plain .ensures))
 
 move-out-requires : tie.Need-move-out-requires
 move-out-requires c κs =
     let pre = c .before .before .before .before .before .before .before .before .before .before .before .pre in
-    let kept = rw (c .before .if2 .left) at (c .before .before .before .before .load-plain .ensures) in
+    let kept = ap (λ (l : Move × List ℕ). l .1) (rw (c .before .if2 .left) at (c .before .before .before .before .load-plain .ensures)) in
     (rw kept (pre .0), rw kept (pre .1))
 
 returns-3 : tie.Need-returns-3
 returns-3 c =
     let tested = c .before .before .before .before .before .before .before .before .before in
-    let kept = rw (c .before .before .before .before .if2 .left) at (c .before .before .before .before .before .before .before .load-plain .ensures) in
+    let kept = ap (λ (l : Move × List ℕ). l .1) (rw (c .before .before .before .before .if2 .left) at (c .before .before .before .before .before .before .before .load-plain .ensures)) in
     past _ (rw (tested .before .may-move-out .ensures) at (tested .if1 .left)) (rw kept at (c .before .before .move-out .ensures))
 
 pub move-transmitter-spec : {M : Type 1} → statement M

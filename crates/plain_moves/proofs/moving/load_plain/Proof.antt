@@ -1,10 +1,13 @@
 -- Where each test passed, the cells that are put are those of the side that the rule gives.
 use borrow.Author.Needs.{needs}
 use borrow.Author.Tests.{not-false}
+use mathlib.Core.List.{List}
 use mathlib.Core.Path.{ap, sym}
+use Prim.Native.Nat.{ℕ}
 use native.Mathlib.Omega.{arith}
 use Rattle.cells.specs.Layout.{transmitterPlace, memoryLength}
 use Rattle.codec.specs.Window.{splice}
+use Rattle.words.specs.declared.answers.Move.{Move}
 use Rattle.plain_moves.specs.laws.PlainMoves.{out-room, out-plain}
 use Rattle.plain_moves.proofs.moving.load_plain.Statement.{statement}
 use Rattle.plain_moves.proofs.moving.load_plain.Tie as tie
@@ -27,7 +30,7 @@ returns-4 c =
     let p = tested .before .is-plain .ensures (not-false _ (tested .if1 .left)) in
     let there = rw (named .ensures, found .before .memory-length .ensures) at (found .if4 .taken) in
     rw (c .before .before .put-word .ensures, named .ensures)
-    (ap (splice (a .cells .now) (transmitterPlace (a .unit)))
+    (ap (λ (p : Move × List ℕ). (p .0, splice (a .cells .now) (transmitterPlace (a .unit)) (p .1)))
     (sym (out-plain (a .cells .now) (transmitterPlace (a .unit)) (omega arith) (λ i. omega (arith, tested .before .before .before .before .before .before .before .before .before .slice-known .given i)) (a .memory .now) (memoryLength (a .cells .now) (a .unit)) there p
     (found .before .before .before .before .before .if2 .left) (omega (arith, found .before .before .before .before .if3 .left)) (start .pre .2))))
 

@@ -7,6 +7,7 @@ use Prim.Native.Nat.{ℕ}
 use native.Mathlib.Omega.{arith}
 use Rattle.cells.specs.Layout.{receiverPlace, memoryLength}
 use Rattle.codec.specs.Window.{splice}
+use Rattle.words.specs.declared.answers.Move.{Move}
 use Rattle.plain_moves.specs.laws.PlainMoves.{in-some, in-plain}
 use Rattle.plain_moves.proofs.moving.store_plain.Statement.{statement}
 use Rattle.plain_moves.proofs.moving.store_plain.Tie as tie
@@ -30,7 +31,7 @@ returns-3 c =
     let p = tested .before .is-plain .ensures (not-false _ (tested .if1 .left)) in
     let there = rw (named .ensures, found .before .memory-length .ensures) at (found .if3 .taken) in
     rw (gave .0, gave .1, named .ensures)
-    (ap (λ (l : List ℕ × List ℕ). (splice (a .cells .now) (receiverPlace (a .unit)) (l .0), l .1))
+    (ap (λ (l : Move × List ℕ × List ℕ). (l .0, splice (a .cells .now) (receiverPlace (a .unit)) (l .1), l .2))
     (sym (in-plain (a .cells .now) (receiverPlace (a .unit)) (omega arith) (λ i. omega (arith, tested .before .before .before .before .before .before .before .before .before .slice-known .given i)) (a .memory .now) (memoryLength (a .cells .now) (a .unit)) there p
     (found .before .before .before .before .if2 .left) (start .pre .2))))
 
