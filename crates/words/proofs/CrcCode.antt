@@ -1,15 +1,15 @@
--- The word put in first and n shifts are the n lowest bits taken one by one (`taken-in`).
+-- The word put in first and sixteen shifts are its bits taken one by one (`word-in`).
 -- Assumes nothing.
 use mathlib.Core.Path.{_≡_, refl, ap, sym, _∙_}
 use mathlib.Core.Bool.{Bool, true, false}
-use Prim.Native.Nat.{ℕ, zero, suc, _+_, _/_, _%_, _^_, _<_}
-use native.Mathlib.Nat.{zero-add, suc-add, div-one, div-eq-of-lt}
-use native.Mathlib.Numerals.{add-one, one-add}
+use Prim.Native.Nat.{ℕ, zero, suc, _/_, _%_, _^_, _<_}
+use native.Mathlib.Nat.{div-one, div-eq-of-lt}
+use native.Mathlib.Numerals.{one-add}
 use native.Mathlib.Omega.{arith}
 use borrow.Author.Tests.{eq-eqb, ne-eqb, eqb-true, eqb-false}
 use lib.Arith.{bin-ind}
-use lib.Bits.{bitXor, bitAnd, and-mask, xor-add-and, xor-shr, xor-comm, xor-zero-r}
-use lib.Pow.{shr-shr, field, mod-mod-pow}
+use lib.Bits.{bitXor, xor-add-and, xor-shr, xor-comm, xor-zero-r}
+use lib.Pow.{shr-shr}
 use lib.Dec.{eqb}
 use Rattle.words.specs.Crc.{polynomial, crcBit, crcBits, crcWord}
 use Rattle.words.specs.laws.CrcSteps.{step, steps}
@@ -51,25 +51,7 @@ in-then-shift (suc n) c w =
     sym (comm n (bitXor c w)) ∙ ap (steps n) (bit-in c w _ refl) ∙ in-then-shift n (crcBit c (w % 2)) (w / 2)
     ∙ ap (bitXor (crcBits (suc n) c w)) (shr-shr w 1 n ∙ simp one-add)
 
--- of a word of n bits nothing is left
-taken-in : (n c w : ℕ) → w < 2 ^ n → steps n (bitXor c w) ≡ crcBits n c w
-taken-in n c w h = in-then-shift n c w ∙ simp (div-eq-of-lt h, xor-zero-r)
-
--- ---- two bytes
-
-low : (n c w : ℕ) → crcBits n c (w % 2 ^ n) ≡ crcBits n c w
-unfolding crcBits
-low zero c w = refl
-low (suc n) c w = rw (← add-one n, mod-mod-pow w n 1, field w n 1) (low n (crcBit c (w % 2)) (w / 2))
-
-then : (m n c w : ℕ) → crcBits (m + n) c w ≡ crcBits n (crcBits m c w) (w / 2 ^ m)
-unfolding crcBits
-then zero n c w = simp (zero-add, div-one)
-then (suc m) n c w =
-    rw suc-add (then m n (crcBit c (w % 2)) (w / 2) ∙ ap (crcBits n (crcBits (suc m) c w)) (shr-shr w 1 m ∙ simp one-add))
-
-pub bytes-in : (c w : ℕ) → w < 2 ^ 16 → steps 8 (bitXor (steps 8 (bitXor c (bitAnd w 0xff))) (w / 2 ^ 8)) ≡ crcWord c w
+-- of a word of sixteen bits nothing is left
+pub word-in : (c w : ℕ) → w < 2 ^ 16 → steps 16 (bitXor c w) ≡ crcWord c w
 unfolding crcWord
-bytes-in c w h =
-    rw (and-mask w 8, taken-in 8 c (w % 2 ^ 8) (omega arith), low 8 c w, taken-in 8 (crcBits 8 c w) (w / 2 ^ 8) (omega arith))
-    (sym (then 8 8 c w))
+word-in c w h = in-then-shift 16 c w ∙ simp (div-eq-of-lt h, xor-zero-r)

@@ -1,4 +1,4 @@
--- The CRC as the code runs it: a byte is put into the register, which is then shifted.
+-- The CRC as the code runs it: a word is put into the register, which is then shifted.
 -- Assumes nothing.
 use Prim.Native.Nat.{ℕ, zero, suc}
 use Rattle.words.specs.Crc.{crcBit}
