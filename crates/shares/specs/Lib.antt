@@ -1,0 +1,14 @@
+pub mod Arranging
+pub mod Asked
+pub mod Contracts
+pub mod Example
+pub mod Lists
+pub mod Numbers
+pub mod One
+pub mod Plan
+pub mod Promise
+pub mod Refusals
+pub mod Spreading
+pub mod Tested
+pub mod Wanted
+pub mod laws

@@ -1,0 +1,5 @@
+pub mod Events
+pub mod LoadLaws
+pub mod Planned
+pub mod RoundLaws
+pub mod Runs
