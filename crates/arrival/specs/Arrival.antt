@@ -8,10 +8,7 @@ use borrow.Author.Tests.{lt-leb, ltb-false, ltb-true}
 use lib.Dec.{ltb}
 use lib.ListN.{length}
 use Rattle.board.specs.Receive.{addressIn}
-use Rattle.board.specs.declared.answers.Read.{Read}
 use Rattle.board.specs.declared.answers.ReceiveCall.{ReceiveCall}
-use Rattle.board.specs.declared.answers.View.{View}
-use Rattle.board.specs.laws.BuildLaws.{build-made}
 use Rattle.cells.specs.Layout.{countIn}
 use Rattle.laws.specs.Pick.{by}
 use Rattle.pcl.specs.Calls.{readCall}
@@ -22,6 +19,9 @@ use Rattle.promise.specs.Opening.{Opening}
 use Rattle.promise.specs.Statement.{Meets, after, message, ownSlices, wordsSent}
 use Rattle.promise.specs.World.{World, Event}
 use Rattle.promise.specs.laws.Opens.{opens}
+use Rattle.readings.specs.declared.answers.Read.{Read}
+use Rattle.readings.specs.declared.answers.View.{View}
+use Rattle.readings.specs.laws.BuildLaws.{build-made}
 use Rattle.words.specs.Slices.{slicesOf}
 use Rattle.arrival.specs.Statement.{Arrival, ArrivalForC, Faithful, Given, NotComplete, Sent, first, receiver, receiving}
 use Rattle.arrival.specs.laws.Outcomes.{given-faithful, given-for-C, long, none-given, not-complete-for-C, not-opened, not-yet, succeeded}

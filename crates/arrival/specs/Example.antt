@@ -9,8 +9,6 @@ use native.Mathlib.Omega.{arith}
 use lib.Count.{ones}
 use lib.Dec.{lit≤}
 use lib.ListN.{replicate}
-use Rattle.board.specs.Build.{anyReserved}
-use Rattle.board.specs.declared.answers.Read.{Read}
 use Rattle.board.specs.declared.answers.ReceiveCall.{ReceiveCall}
 use Rattle.cells.specs.Fitted.{transmitterOf}
 use Rattle.cells.specs.Ranges.{inRange}
@@ -22,6 +20,8 @@ use Rattle.promise.specs.Kinds.{Kind, kindOf, other, own, owns}
 use Rattle.promise.specs.Opening.{Opening}
 use Rattle.promise.specs.Statement.{Meets, after, message, opened, ownSlices, parties}
 use Rattle.promise.specs.World.{World, Event, fit, write, writeByte, slice, move, hostWrite, numberOf, run, step}
+use Rattle.readings.specs.Build.{anyReserved}
+use Rattle.readings.specs.declared.answers.Read.{Read}
 use Rattle.words.specs.Crc.{crcBits, crcWord}
 use Rattle.words.specs.Slices.{slicesOf}
 use Rattle.arrival.specs.Arrival.{arrival, arrive}

@@ -5,13 +5,13 @@ use mathlib.Core.List.{List, _++_}
 use mathlib.Core.Path.{_≡_}
 use Prim.Native.Nat.{ℕ, _+_, _/_, _≤_, _<_}
 use lib.ListN.{length, take, drop}
-use Rattle.board.specs.Build.{buildCall}
-use Rattle.board.specs.declared.answers.Built.{Built}
 use Rattle.cells.specs.Fitted.{transmitterOf}
 use Rattle.cells.specs.Layout.{countIn, memoryLength}
 use Rattle.cells.specs.Ranges.{inRange}
 use Rattle.delivery.specs.Conditions.{Stretch}
 use Rattle.promise.specs.World.{World}
+use Rattle.readings.specs.Build.{buildCall}
+use Rattle.readings.specs.declared.answers.Built.{Built}
 use Rattle.silos.specs.Silo as Silo
 use Rattle.transmitter.specs.declared.side.Transmitter.{Transmitter}
 use Rattle.words.specs.Load.{wordsLeft}

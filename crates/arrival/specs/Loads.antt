@@ -9,11 +9,11 @@ use native.Mathlib.Omega.{arith}
 use borrow.Author.Tests.{eqb-true}
 use lib.ListN.{take, drop}
 use lib.Seq.{drop-append-add, take-add}
-use Rattle.board.specs.Build.{buildCall}
-use Rattle.board.specs.declared.answers.Built.{Built}
 use Rattle.cells.specs.Fitted.{transmitterOf}
 use Rattle.promise.specs.Statement.{parties}
 use Rattle.promise.specs.World.{World, Event, move, run, step}
+use Rattle.readings.specs.Build.{buildCall}
+use Rattle.readings.specs.declared.answers.Built.{Built}
 use Rattle.silos.specs.Silo.{isEmpty}
 use Rattle.transmitter.specs.declared.side.Transmitter.{Transmitter}
 use Rattle.words.specs.Load.{wordsLeft}

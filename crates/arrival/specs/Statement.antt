@@ -7,18 +7,18 @@ use mathlib.Core.List.{List, map}
 use mathlib.Core.Path.{_≡_}
 use Prim.Native.Nat.{ℕ, _*_, _≤_, _<_}
 use lib.ListN.{length, getD, take}
-use Rattle.board.specs.Build.{buildCall}
-use Rattle.board.specs.Messages.{lent, over}
 use Rattle.board.specs.Numbers.{receiveFace}
-use Rattle.board.specs.Readings.{lentReading, numberOf}
 use Rattle.board.specs.Receive.{receiveCall}
-use Rattle.board.specs.declared.answers.Built.{Built}
-use Rattle.board.specs.declared.answers.Read.{Read}
 use Rattle.board.specs.declared.answers.ReceiveCall.{ReceiveCall}
-use Rattle.board.specs.declared.answers.View.{View}
 use Rattle.cells.specs.Fitted.{receiverOf}
 use Rattle.promise.specs.Statement.{after, allSlices, message, ownSlices, parties, round}
 use Rattle.promise.specs.World.{World, Event}
+use Rattle.readings.specs.Build.{buildCall}
+use Rattle.readings.specs.Messages.{lent, over}
+use Rattle.readings.specs.Readings.{lentReading, numberOf}
+use Rattle.readings.specs.declared.answers.Built.{Built}
+use Rattle.readings.specs.declared.answers.Read.{Read}
+use Rattle.readings.specs.declared.answers.View.{View}
 use Rattle.words.specs.Slices.{slicesOf}
 
 -- start is the world before the opening slice

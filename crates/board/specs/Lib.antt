@@ -1,13 +1,7 @@
-pub mod Build
-pub mod Calls
 pub mod Collect
 pub mod Contracts
-pub mod Inverse
-pub mod Messages
 pub mod Numbers
 pub mod One
-pub mod Read
-pub mod Readings
 pub mod Receive
 pub mod Received
 pub mod laws

@@ -1,10 +1,4 @@
-pub mod BuildLaws
 pub mod CollectLaws
-pub mod InverseLaws
-pub mod MessageLaws
 pub mod Packed
-pub mod Placing
-pub mod ReadLaws
 pub mod ReceiveLaws
 pub mod ReceivedLaws
-pub mod Tests

@@ -1,18 +1,19 @@
 // The calls as C has them: plain numbers and slices, and an answer's number with its value above it.
-use crate::answers::Built;
 use crate::answers::Collected;
-use crate::answers::Read;
-use crate::answers::ReadCall;
 use crate::answers::ReceiveCall;
-use crate::building::build;
 use crate::collecting::collect;
-use crate::reading::count_of;
-use crate::reading::read_numbers;
 use crate::receiving::receive;
+use readings::answers::Built;
+use readings::answers::Read;
+use readings::answers::ReadCall;
+use readings::building::build;
+use readings::reading::count_of;
+use readings::reading::read_numbers;
 ghost use mathlib.Core.Path.{_≡_};
 ghost use Rattle.board.specs.Contracts.{ReadFaceOutcome, BuildFaceOutcome, ReceiveFaceOutcome, CollectFaceOutcome};
-ghost use Rattle.board.specs.Numbers.{readNumber, readCallPacked, receivePacked, builtNumber, builtPacked, collectPacked};
+ghost use Rattle.board.specs.Numbers.{receivePacked, collectPacked};
 ghost use Rattle.pcl.specs.Numbers.{readCallNumber, moveCallNumber};
+ghost use Rattle.readings.specs.Numbers.{readNumber, readCallPacked, builtNumber, builtPacked};
 ghost use Rattle.words.specs.Answers as Words;
 
 fn number_read(read: Read) -> u32

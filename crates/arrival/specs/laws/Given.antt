@@ -6,9 +6,9 @@ use Prim.Native.Nat.{ℕ, _<_}
 use native.Mathlib.Omega.{arith}
 use lib.Dec.{ltb}
 use lib.ListN.{length, getD, drop, length-map, List·getD-append, List·getD-map}
-use Rattle.board.specs.Messages.{lent, over}
-use Rattle.board.specs.Readings.{lentReading, numberOf}
 use Rattle.laws.specs.Pick.{by}
+use Rattle.readings.specs.Messages.{lent, over}
+use Rattle.readings.specs.Readings.{lentReading, numberOf}
 
 -- ---- one
 

@@ -9,9 +9,6 @@ use native.Mathlib.Omega.{arith}
 use lib.Dec.{lit≤}
 use lib.ListN.{length, getD, take, drop, length-append, length-drop}
 use lib.Seq.{getD-append-add, length-take-le, take-suc}
-use Rattle.board.specs.Messages.{lent, messageOf}
-use Rattle.board.specs.laws.BuildLaws.{build-made}
-use Rattle.board.specs.laws.InverseLaws.{message-long}
 use Rattle.cells.specs.Fitted.{transmitterOf}
 use Rattle.cells.specs.Layout.{memoryLength}
 use Rattle.cells.specs.laws.FrameLaws.{memory-length-kept}
@@ -27,6 +24,9 @@ use Rattle.moves.specs.Moving.{transmitterMoved}
 use Rattle.pcl.specs.Sides.{sentBy}
 use Rattle.promise.specs.World.{World, move, movedBy, step}
 use Rattle.promise.specs.laws.MoveCalls.{sender-call}
+use Rattle.readings.specs.Messages.{lent, messageOf}
+use Rattle.readings.specs.laws.BuildLaws.{build-made}
+use Rattle.readings.specs.laws.InverseLaws.{message-long}
 use Rattle.silos.specs.laws.Laws.{words-put}
 use Rattle.transmitter.specs.Moves as T
 use Rattle.transmitter.specs.declared.side.Transmitter.{Transmitter}

@@ -6,18 +6,18 @@ use mathlib.Core.Path.{_≡_, refl, ap, sym, _∙_}
 use Prim.Native.Nat.{ℕ, _≤_}
 use borrow.Author.Tests.{le-ltb}
 use lib.ListN.{length, take}
-use Rattle.board.specs.Build.{buildCall}
-use Rattle.board.specs.Inverse.{build-then-read}
-use Rattle.board.specs.Messages.{lent, over}
-use Rattle.board.specs.Read.{readOf}
-use Rattle.board.specs.Readings.{numberOf}
 use Rattle.board.specs.Receive.{completeIn, receiveCall, receivedAs, receivedInto, wordsBetween}
-use Rattle.board.specs.declared.answers.Built.{Built}
-use Rattle.board.specs.declared.answers.Read.{Read}
 use Rattle.board.specs.declared.answers.ReceiveCall.{ReceiveCall}
 use Rattle.board.specs.laws.ReceiveLaws.{message-received}
 use Rattle.cells.specs.Fitted.{receiverOf}
 use Rattle.laws.specs.Pick.{past}
+use Rattle.readings.specs.Build.{buildCall}
+use Rattle.readings.specs.Inverse.{build-then-read}
+use Rattle.readings.specs.Messages.{lent, over}
+use Rattle.readings.specs.Read.{readOf}
+use Rattle.readings.specs.Readings.{numberOf}
+use Rattle.readings.specs.declared.answers.Built.{Built}
+use Rattle.readings.specs.declared.answers.Read.{Read}
 use Rattle.arrival.specs.laws.Reads.{Ready, shown, standing-is}
 
 module _ (cells memory : List ℕ) (unit first : ℕ) (is : Ready cells unit) (room : List ℕ) (enough : 64 ≤ length room) where

@@ -1,6 +1,6 @@
 -- The call, and its number.
 use borrow.Author.Needs.{needs}
-use Rattle.board.specs.Numbers.{builtPacked}
+use Rattle.readings.specs.Numbers.{builtPacked}
 use Rattle.board.specs.laws.Packed.{packed-as}
 use Rattle.board.proofs.face.board_build.Statement.{statement}
 use Rattle.board.proofs.face.board_build.Tie as tie

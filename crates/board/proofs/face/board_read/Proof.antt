@@ -1,6 +1,6 @@
 -- The call, and its number.
 use borrow.Author.Needs.{needs}
-use Rattle.board.specs.Numbers.{readCallPacked}
+use Rattle.readings.specs.Numbers.{readCallPacked}
 use Rattle.board.specs.laws.Packed.{packed-as}
 use Rattle.board.proofs.face.board_read.Statement.{statement}
 use Rattle.board.proofs.face.board_read.Tie as tie
