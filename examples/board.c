@@ -1,5 +1,6 @@
 /* board.c - sixteen methane readings go from one host to another: document 02's
- * request No. 2, the readings board.
+ * request No. 2, the readings board, and No. 6, the serials by which a message is
+ * told from the last one.
  *
  * Host A builds a message of them and sends it; host B receives it, and takes the
  * board's answer apart: it has the readings, or the name of a refusal. One sensor
@@ -7,7 +8,8 @@
  * receiver, between the bus and its memory. The old link reported a message
  * complete at that moment, and a table that was made of the memory then had zeros
  * for readings that nobody had read. What it would have shown is read out of B's
- * memory here, before the rest is moved, and stands beside what the board gives. */
+ * memory here, before the rest is moved, and stands beside what the board gives.
+ * In the end A sends its readings once more, and B tells the two successes apart. */
 #include <stdbool.h>
 #include <stdio.h>
 #include <stdlib.h>
@@ -68,6 +70,7 @@ static unsigned send(void)
         printf("not built: number %u\n", board_number(answer));
         exit(EXIT_FAILURE);
     }
+    host_write(A, PCL_TSR, 0);                                  /* what an earlier message left there */
     host_write(A, PCL_TSBA, POINT);
     host_write(A, PCL_TSBC, count_of(words));
     host_write(A, PCL_TCR, PCL_TCR_DESTINATION(RECEIVER_B) | PCL_TCR_TX_NPR | PCL_TCR_SND_WD | PCL_TCR_ST_TXM);
@@ -84,7 +87,7 @@ static void get_ready(void)
 }
 
 /* What B has received, by the board. */
-static uint32_t receive(uint32_t *received)
+static uint64_t receive(uint32_t *received)
 {
     return board_receive(BOARD_KIND, cells, PCL_CELLS(HOSTS), memory[B], MEMORY, B, BUFFER, received, BOARD_SENSORS_MOST);
 }
@@ -147,13 +150,13 @@ static const char *name_of(unsigned number)
     }
 }
 
-static void show_receiver(uint32_t answer)
+static void show_receiver(uint64_t answer)
 {
     unsigned rsr = host_read(B, PCL_RSR);
 
     printf("   B's receiver: %s (RSR %06o). The board: ", rsr & PCL_RSR_SUC_TXF ? "success" : "a message is under way", rsr);
     if (board_number(answer) == BOARD_DONE)
-        printf("%u readings.\n", board_value(answer));
+        printf("%u readings, serial %u.\n", board_sensors(answer), board_serial(answer));
     else
         printf("refused, %s (number %u). It gives no reading.\n", name_of(board_number(answer)), board_number(answer));
 }
@@ -175,9 +178,10 @@ int main(void)
         TRANSMITTER_A, RECEIVER_A, 3, MEMORY,
         TRANSMITTER_B, RECEIVER_B, 3, MEMORY
     };
-    uint32_t received[BOARD_SENSORS_MOST], answer;
+    uint32_t received[BOARD_SENSORS_MOST];
+    uint64_t answer;
     uint16_t old_table[SENSORS];
-    unsigned words, there, false_zeros = 0;
+    unsigned words, there, seen, false_zeros = 0;
 
     checked(pcl_fit(cells, PCL_CELLS(HOSTS), setup, PCL_SETUP(HOSTS)));
     checked(pcl_write_byte(cells, PCL_CELLS(HOSTS), A, PCL_TMMR + 1, (PCL_TMMR_MASTER | PCL_TMMR_AUT_ADR) >> 8));
@@ -205,7 +209,8 @@ int main(void)
     printf("3. The other %u words are in B's memory too, and then, not before, the CRC is acknowledged.\n", words - there);
     answer = receive(received);
     show_receiver(answer);
-    must(board_number(answer) == BOARD_DONE && board_value(answer) == SENSORS, "the readings are given");
+    must(board_number(answer) == BOARD_DONE && board_sensors(answer) == SENSORS, "the readings are given");
+    seen = board_serial(answer);
 
     printf("\n   Methane, in percent:\n\n   sensor      old link, at 2     the board, at 3\n");
     for (unsigned i = 0; i < SENSORS; i++) {
@@ -219,5 +224,18 @@ int main(void)
     printf("\n   * In %u rows the old table has a zero that no sensor gave. Sensor %u stands at %u.%02u percent; and of sensor %u\n"
            "     nobody knows the methane, so that its heading must not be cleared.\n",
            false_zeros, HIGHEST, (unsigned)received[HIGHEST - 1] / 100, (unsigned)received[HIGHEST - 1] % 100, DEAD);
+
+    printf("\n4. The success stands until B clears it. Asked once more, the board gives the same message:\n");
+    answer = receive(received);
+    show_receiver(answer);
+    must(board_number(answer) == BOARD_DONE && board_serial(answer) == seen, "the same message has the same serial");
+    get_ready();
+    words = send();
+    until_all_is_sent();
+    until_success(words, received);
+    printf("   B gets ready again, and A sends its readings again. By the serial B tells this message from the last:\n");
+    answer = receive(received);
+    show_receiver(answer);
+    must(board_number(answer) == BOARD_DONE && board_serial(answer) != seen, "the next message has another serial");
     return EXIT_SUCCESS;
 }

@@ -1,6 +1,7 @@
-/* host.c - two hosts pass a message over the link, as in the PCL11-B manual's
- * 3.4.2: host A sends a block of its memory by NPR transfers, host B receives
- * it into a buffer, and both wait for SUC TXF.
+/* host.c - two hosts pass two messages over the link, each as in the PCL11-B
+ * manual's 3.4.2: host A sends a block of its memory by NPR transfers, host B
+ * receives it into a buffer, and both wait for SUC TXF. By the serial both can
+ * tell the second message from the first.
  *
  * The emulator's part is `bus`: one slice, and the memory moves that the silos
  * ask for in between. */
@@ -32,6 +33,12 @@ static void host_write(uint32_t host, uint32_t offset, unsigned word)
 static unsigned host_read(uint32_t host, uint32_t offset)
 {
     return pcl_value(checked(pcl_read(cells, PCL_CELLS(HOSTS), host, offset)));
+}
+
+/* By which an interrupt routine tells this message from the last one. */
+static unsigned serial(uint32_t host, uint32_t side)
+{
+    return pcl_value(checked(pcl_serial(cells, PCL_CELLS(HOSTS), host, side)));
 }
 
 /* This host's master section serves addresses 3, 2, 1, 3, .. from now on. */
@@ -90,31 +97,42 @@ static unsigned wait_for_success(void)
     }
 }
 
-int main(void)
+/* One message from A to B: whether it came with success. */
+static int pass(const char *text, unsigned words)
 {
-    static const uint32_t setup[PCL_SETUP(HOSTS)] = {
-        TRANSMITTER_A, RECEIVER_A, 3, MEMORY,
-        TRANSMITTER_B, RECEIVER_B, 3, MEMORY
-    };
-    static const char text[] = "Heading 4 north: methane 0.3 percent at 06:40, fan on.";
-    unsigned words = sizeof text / 2, slices;
-
-    checked(pcl_fit(cells, PCL_CELLS(HOSTS), setup, PCL_SETUP(HOSTS)));
-    be_master(A);
+    unsigned slices;
 
     for (unsigned i = 0; i < words; i++)                        /* two letters in a word, the low byte first */
         memory[A][POINT / 2 + i] = (uint16_t)(text[2 * i] | text[2 * i + 1] << 8);
+    host_write(A, PCL_TSR, 0);                                  /* no SUC TXF of the message before */
     receive(BUFFER, MEMORY / 2);
     send(POINT, words, RECEIVER_B);
 
     slices = wait_for_success();
     if (slices == 0) {
         printf("failed: TSR %06o, RSR %06o\n", host_read(A, PCL_TSR), host_read(B, PCL_RSR));
-        return EXIT_FAILURE;
+        return 0;
     }
     printf("%u words from transmitter %u, complete after %u slices:\n", words, host_read(B, PCL_RCR) >> 8 & 31, slices);
     for (unsigned i = 0; i < words; i++)
         printf("%c%c", memory[B][BUFFER / 2 + i] & 255, memory[B][BUFFER / 2 + i] >> 8);
     printf("\nCRC sent %06o, received %06o\n", host_read(A, PCL_TSCRC), host_read(B, PCL_RDCRC));
+    printf("serial %u at the sender, %u at the receiver\n", serial(A, PCL_TRANSMITTER), serial(B, PCL_RECEIVER));
+    return 1;
+}
+
+int main(void)
+{
+    static const uint32_t setup[PCL_SETUP(HOSTS)] = {
+        TRANSMITTER_A, RECEIVER_A, 3, MEMORY,
+        TRANSMITTER_B, RECEIVER_B, 3, MEMORY
+    };
+    static const char first[] = "Heading 4 north: methane 0.3 percent at 06:40, fan on.";
+    static const char second[] = "Heading 4 north: methane 0.2 percent at 06:50, fan on.";
+
+    checked(pcl_fit(cells, PCL_CELLS(HOSTS), setup, PCL_SETUP(HOSTS)));
+    be_master(A);
+    if (!pass(first, sizeof first / 2) || !pass(second, sizeof second / 2))
+        return EXIT_FAILURE;
     return EXIT_SUCCESS;
 }

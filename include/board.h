@@ -44,7 +44,7 @@ enum {
     BOARD_RESERVED_VALUE = 7,   /* a value of 177777 octal, which a message can't carry */
     BOARD_MISSING = 8,          /* an address outside the memory stopped it; the value is that address */
     BOARD_BAD_ROOM = 9,         /* too little room lent */
-    BOARD_LINK = 16             /* plus a number of pcl.h, with which the link refused a register read or a move: 17, PCL_NOT_FITTED,
+    BOARD_LINK = 16             /* plus a number of pcl.h, with which the link refused a call: 17, PCL_NOT_FITTED,
                                  * the unit is not fitted; 25, PCL_BAD_ROOM, too few cells, a header out of range, or at
                                  * board_collect a memory shorter than the fitted one. No others */
 };
@@ -60,10 +60,20 @@ enum {
 #define BOARD_WORDS(sensors) (3 + (size_t)(sensors))
 #define BOARD_WORDS_MOST BOARD_WORDS(BOARD_SENSORS_MOST)
 
-/* An answer taken apart. board_collect answers 64 bits, since an address has 18;
- * an answer of 32 bits is taken too. */
+/* An answer taken apart. board_receive and board_collect answer 64 bits, since a
+ * serial stands above the count of sensors, and an address has 18; an answer of 32
+ * bits is taken too. Keep an answer of 64 bits in 64: in 32 the serial is lost. */
 static inline unsigned board_number(uint64_t answer) { return (unsigned)(answer & 0xFFFF); }
 static inline unsigned board_value(uint64_t answer) { return (unsigned)(answer >> 16); }
+
+/* The count of sensors that board_read or board_receive answered, and the serial
+ * that board_receive answered with it, of the receiver's last opening. Both are 0
+ * with a refusal, and 0 is a serial too: look at the number first. After
+ * board_receive board_value() is the count with 65,536 times the serial added, so
+ * use board_sensors() for a loop over the readings, and compare board_number(), not
+ * the answer, with a number. */
+static inline unsigned board_sensors(uint64_t answer) { return board_value(answer) & 0xFFFF; }
+static inline unsigned board_serial(uint64_t answer) { return board_value(answer) >> 16; }
 
 /* The byte address outside the memory that stopped a board_collect, 18 bits and
  * even. 0 where none did: address 0 lies inside every memory. */
@@ -86,18 +96,30 @@ uint32_t board_read(uint32_t kind, uint32_t complete, const uint16_t *message, s
 
 /* The same from the link itself, by its own calls: reads the message that a unit
  * has received into its memory by pcl_move. It makes three register reads at the
- * unit, RSR, RCR, RDBA, and changes no cell. The message is complete where RSR has
- * SUC TXF and neither RECOM, ERR nor CHN OPN. Its words are those from byte address
- * `first`, where RDBA with EA17 and EA16 stood before the message, up to where they
- * stand now; bit 0 of an address is not looked at. The memory is that of the unit,
- * and is only read. It holds all these words: where it is lent shorter, or `first`
- * lies past where RDBA stands, no word counts as received, and the answer is 2.
- * Readings are as with board_read.
+ * unit, RSR, RCR, RDBA, asks pcl_serial of its receiver, and changes no cell. The
+ * message is complete where RSR has SUC TXF and neither RECOM, ERR nor CHN OPN. Its
+ * words are those from byte address `first`, where RDBA with EA17 and EA16 stood
+ * before the message, up to where they stand now; bit 0 of an address is not looked
+ * at. The memory is that of the unit, and is only read. It holds all these words:
+ * where it is lent shorter, or `first` lies past where RDBA stands, no word counts
+ * as received, and the answer is 2. Readings are as with board_read.
+ *
+ * With the readings comes the serial of the receiver's last opening, as pcl_serial
+ * has it. The transmitter that opened it raised it by one there, as at each of its
+ * openings, to whatever receiver; after 65,535 comes 0, and a fit begins anew. So an
+ * interrupt routine tells this message from the last one: a success that it saw
+ * before has the serial that it had then. Each transmitter counts by itself: where
+ * several send to one receiver, the sender's address, which RCR shows in bits 8 to
+ * 12 until RC INIT, belongs to the serial; read it with no slice between. After a
+ * refusal pcl_serial at the receiver shows the serial.
  *
  * Before each message clear RSR, or do RC INIT: SUC TXF stands until the host does.
- * As long as it stands, a second call gives the same message again with 0, however
- * old it is by then. If it is left standing and the receiver is made ready again,
- * the answer is 2 and not 1 until the next message opens the channel.
+ * Until the receiver opens again, a second call gives the same message again with 0
+ * and with the same serial, however old it is by then. A SUC TXF that is left over
+ * an opening that is then rejected or broken off comes back with the new serial,
+ * once RECOM or ERR alone is cleared: clear all of RSR. If it is left standing and the
+ * receiver is made ready again, the answer is 2 and not 1 until the next message
+ * opens the channel.
  *
  * 1 is "not yet" and "never" alike, so that a loop until another number comes may
  * not end. RSR tells them apart: while ERR or RECOM stands, no message will be given.
@@ -105,8 +127,9 @@ uint32_t board_read(uint32_t kind, uint32_t complete, const uint16_t *message, s
  * that stays open without a word, but how long to wait for a message that nobody
  * opens is for the host to say.
  *
- * Answers 0 with the count of sensors; 9; 25, 17; 1, 2, 3, 4, in this order. */
-uint32_t board_receive(uint32_t kind, uint16_t *cells, size_t cells_length, const uint16_t *memory, size_t memory_length, uint32_t unit, uint32_t first, uint32_t *readings, size_t readings_length);
+ * Answers 0 with the count of sensors and, 65,536 times over it, the serial; 9; 25,
+ * 17; 1, 2, 3, 4, in this order. */
+uint64_t board_receive(uint32_t kind, uint16_t *cells, size_t cells_length, const uint16_t *memory, size_t memory_length, uint32_t unit, uint32_t first, uint32_t *readings, size_t readings_length);
 
 /* Collects the words that a unit's receiver holds: makes moves at that side, as
  * pcl_move does, until one is answered PCL_NOTHING, 65 at most (a silo has 64

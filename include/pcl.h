@@ -51,7 +51,7 @@ enum { PCL_TRANSMITTER = 0, PCL_RECEIVER = 1 };
 
 /* Room, in elements: the cells of a link, the numbers of a set-up. */
 #define PCL_UNITS_MOST 16
-#define PCL_CELLS(units) (2 + 214 * (size_t)(units))
+#define PCL_CELLS(units) (2 + 216 * (size_t)(units))
 #define PCL_CELLS_MOST PCL_CELLS(PCL_UNITS_MOST)
 #define PCL_SETUP(units) (4 * (size_t)(units))
 #define PCL_MEMORY_MOST 131072
@@ -90,9 +90,9 @@ enum {
 };
 
 /* An answer taken apart. The value is 0 but with PCL_DONE from pcl_read (the
- * word), pcl_level (0 or 1), pcl_slice (the address served, and the response
- * codes A and B, 0 to 3) and pcl_move (the address that was missing). A move
- * answers 64 bits, since an address has 18; an answer of 32 bits is taken too.
+ * word), pcl_level (0 or 1), pcl_serial (the serial), pcl_slice (the address
+ * served, and the response codes A and B, 0 to 3) and pcl_move (the address that
+ * was missing). A move answers 64 bits, since an address has 18; an answer of 32 bits is taken too.
  * Keep a move's answer in 64 bits, and compare pcl_number(answer), not the
  * answer, with a number: PCL_DONE has a value where the move set NXL. */
 static inline unsigned pcl_number(uint64_t answer) { return (unsigned)(answer & 0xFFFF); }
@@ -150,6 +150,27 @@ uint32_t pcl_reset(uint16_t *cells, size_t cells_length, uint32_t unit);
 
 /* Whether a side asks for an interrupt. Answers 0 with 0 or 1; 1, 9. */
 uint32_t pcl_level(const uint16_t *cells, size_t cells_length, uint32_t unit, uint32_t side);
+
+/* The serial of the last opening at a side, also after the channel closed. The
+ * slice of an opening adds one at the transmitter, and after 65,535 starts again
+ * at 0; the receiver takes the transmitter's new one with the opening word. A try
+ * that is answered 00 uses no number up. Nothing else changes either serial, no
+ * TX INIT, RC INIT or reset: only a fit answered 0, which makes all of them 0.
+ * From a fit on, while a channel is open at both ends, and after whatever closes
+ * it but a fit, both ends show the same, until either opens again.
+ *
+ * So an interrupt routine tells this message from the last one: it remembers the
+ * serial that it has dealt with, and forgets it at a fit. It reads the status and
+ * the serial with no slice between them, and clears SUC TXF, SORE and RECOM before
+ * the side may open again: the serial is that of the last opening, and an opening
+ * leaves those bits as they stand. A transmitter counts its openings to every
+ * receiver, and shows a number again after 65,536 of them; until the opening slice
+ * it shows the last one's. A receiver has the serial of whoever opened it last, so
+ * that there a message is told by RCR 8 to 12 with the serial, read before RC INIT,
+ * which clears those bits. With ST TXM clear each word sets SUC TXF, and all of one
+ * channel have one serial: there it does not tell one success from the next.
+ * Answers 0 with the serial; 1, 9. */
+uint32_t pcl_serial(const uint16_t *cells, size_t cells_length, uint32_t unit, uint32_t side);
 
 #ifdef __cplusplus
 }

@@ -95,7 +95,8 @@ static unsigned read(uint32_t kind, uint32_t complete, const uint16_t *message, 
     must(holds(&readings_row, of_second), "another reading is given");
     must(holds(&message_row, message), "reading changed the message");
     must(is_alone(&message_row) && is_alone(&readings_row), "reading wrote beside what was lent");
-    sensors = number == BOARD_DONE ? board_value(archive) : 0;
+    sensors = board_sensors(archive);
+    must(sensors == board_value(archive) && board_serial(archive) == 0, "reading answers more than the count of sensors");
     must(sensors <= room && memcmp(readings + sensors, some_numbers + sensors, (room - sensors) * sizeof *readings) == 0,
          "a reading past the last is not as it was, or one after a refusal");
     for (size_t i = 0; i < sensors; i++)

@@ -1,7 +1,7 @@
 /* receive.c - board_receive on the archives against the second implementation over
  * the second library: messages that arrive, with a call after every slice, good ones
- * and ill ones; messages that do not arrive whole; every refusal alone and every two
- * at once; and random states of the link.
+ * and ill ones; messages that do not arrive whole; messages told apart by their
+ * serials; every refusal alone and every two at once; and random states of the link.
  *
  * receive [random calls [seed]] */
 #define _DEFAULT_SOURCE
@@ -21,7 +21,8 @@ enum { NUMBERS = BOARD_LINK + PCL_BAD_ROOM + 1 };
 
 static struct row cells_row, memory_row, readings_row;
 static uint32_t given[ROOM_MOST];       /* the room as the last call left it */
-static unsigned long long receives, by_number[NUMBERS], extended[4];
+static unsigned serial_given;           /* and the serial that it answered */
+static unsigned long long receives, by_number[NUMBERS], extended[4], with_serial;
 
 static struct order receive_order = { .call = "receiving", .refusals = 7,
     .number = { BOARD_BAD_ROOM, BOARD_LINK + PCL_BAD_ROOM, BOARD_LINK + PCL_NOT_FITTED, BOARD_NOT_COMPLETE, BOARD_WRONG_LENGTH,
@@ -38,6 +39,8 @@ static void must(bool holds, const char *what)
 /* ---- one call on both */
 
 static uint32_t read_second(void *link, uint32_t unit, uint32_t offset) { return second_read(link, unit, offset); }
+static uint32_t serial_second(void *link, uint32_t unit) { return second_serial(link, unit, PCL_RECEIVER); }
+static const struct second_board_link as_fitted = { read_second, serial_second };
 
 /* What the link answers in a state out of range, which the second library has not. */
 static uint32_t read_nothing(void *link, uint32_t unit, uint32_t offset)
@@ -46,17 +49,25 @@ static uint32_t read_nothing(void *link, uint32_t unit, uint32_t offset)
     return PCL_BAD_ROOM;
 }
 
-static unsigned look_at_answer(uint32_t archive, uint32_t second, unsigned wanted)
+static uint32_t serial_nothing(void *link, uint32_t unit)
+{
+    (void)link, (void)unit;
+    return PCL_BAD_ROOM;
+}
+
+static const struct second_board_link out_of_range = { read_nothing, serial_nothing };
+
+static unsigned look_at_answer(uint64_t archive, uint64_t second, unsigned wanted)
 {
     unsigned number = board_number(archive);
 
     if (archive != second || (wanted != WHATEVER && number != wanted)) {
-        printf("board, after %llu receives and %llu calls of the link: the archive answers %#x, the second %#x, wanted is number %u\n",
-               receives, calls, (unsigned)archive, (unsigned)second, wanted);
+        printf("board, after %llu receives and %llu calls of the link: the archive answers %#llx, the second %#llx, wanted is number %u\n",
+               receives, calls, (unsigned long long)archive, (unsigned long long)second, wanted);
         exit(1);
     }
     must(number < NUMBERS, "an answer's number is none of the refusals");
-    must(number == BOARD_DONE || board_value(archive) == 0, "a refusal has a value");
+    must(number == BOARD_DONE || archive == number, "a refusal has a value");
     receives++;
     by_number[number]++;
     return number;
@@ -66,7 +77,7 @@ static unsigned look_at_answer(uint32_t archive, uint32_t second, unsigned wante
 struct lent {
     const uint16_t *cells;
     size_t cells_length, memory_length;
-    second_board_link *read;
+    const struct second_board_link *link;
 };
 
 static unsigned receive_from(const struct lent *lent, uint32_t kind, uint32_t unit, uint32_t first, size_t room, unsigned wanted)
@@ -75,7 +86,8 @@ static unsigned receive_from(const struct lent *lent, uint32_t kind, uint32_t un
     const uint16_t *whole = memory[unit % PCL_UNITS_MOST];
     uint16_t *lent_cells = lend(&cells_row, lent->cells, lent->cells_length * sizeof *cells);
     const uint16_t *lent_memory = lend(&memory_row, whole, lent->memory_length * sizeof *whole);
-    uint32_t *readings, archive, second;
+    uint32_t *readings;
+    uint64_t archive, second;
     unsigned number;
     size_t sensors;
 
@@ -83,14 +95,18 @@ static unsigned receive_from(const struct lent *lent, uint32_t kind, uint32_t un
         of_second[i] = before[i] = below(0x7FFFFFFF) * 2 + below(2);
     readings = lend(&readings_row, before, room * sizeof *readings);
     archive = board_receive(kind, lent_cells, lent->cells_length, lent_memory, lent->memory_length, unit, first, readings, room);
-    second = second_board_receive(kind, lent->read, &l, memory_of_second[unit % PCL_UNITS_MOST], lent->memory_length, unit, first,
+    second = second_board_receive(kind, lent->link, &l, memory_of_second[unit % PCL_UNITS_MOST], lent->memory_length, unit, first,
                                   of_second, room);
     number = look_at_answer(archive, second, wanted);
     must(holds(&cells_row, lent->cells), "receiving changed a cell");
     must(holds(&memory_row, whole), "receiving changed a memory");
     must(holds(&readings_row, of_second), "another reading is given");
     must(is_alone(&cells_row) && is_alone(&memory_row) && is_alone(&readings_row), "receiving wrote beside what was lent");
-    sensors = number == BOARD_DONE ? board_value(archive) : 0;
+    must(number != BOARD_DONE || board_serial(archive) == pcl_value(pcl_serial(lent->cells, lent->cells_length, unit, PCL_RECEIVER)),
+         "the serial is not the receiver's");
+    serial_given = board_serial(archive);
+    with_serial += serial_given != 0;
+    sensors = board_sensors(archive);
     must(sensors <= room && memcmp(readings + sensors, before + sensors, (room - sensors) * sizeof *readings) == 0,
          "a reading past the last is not as it was, or one after a refusal");
     memcpy(given, readings, room * sizeof *given);
@@ -99,18 +115,20 @@ static unsigned receive_from(const struct lent *lent, uint32_t kind, uint32_t un
 
 static unsigned receive(uint32_t kind, uint32_t unit, uint32_t first, size_t memory_length, size_t room, unsigned wanted)
 {
-    const struct lent lent = { cells, PCL_CELLS(l.units), memory_length, read_second };
+    const struct lent lent = { cells, PCL_CELLS(l.units), memory_length, &as_fitted };
 
     return receive_from(&lent, kind, unit, first, room, wanted);
 }
 
 /* ---- a message of readings on its way */
 
-static struct { uint32_t t, r, units, from, to, words, sensors; uint32_t reading[BOARD_SENSORS_MOST]; } sent;
+/* The serial is T's, as its openings are counted here. */
+static struct { uint32_t t, r, units, from, to, words, sensors; uint32_t reading[BOARD_SENSORS_MOST]; uint16_t serial; } sent;
 
 static uint32_t bytes_of(uint32_t words) { return 2 * words; }
 static uint32_t extended_bits(uint32_t word) { return (word >> 15) << 4; }
 static uint32_t status_of_receiver(void) { return pcl_value(pcl_read(cells, PCL_CELLS_MOST, sent.r, PCL_RSR)); }
+static unsigned serial_of_transmitter(void) { return pcl_value(pcl_serial(cells, PCL_CELLS_MOST, sent.t, PCL_TRANSMITTER)); }
 
 /* What R has received of it; the memory is lent up to the message's last word. */
 static void received(unsigned wanted)
@@ -151,6 +169,7 @@ static void fit_link(uint32_t units, uint32_t t, uint32_t r)
     sent.r = r;
     sent.from = 300;
     sent.to = 1000;
+    sent.serial = 0;
     call_fit(setup, PCL_SETUP(units));
     take_mastership(units - 1);
 }
@@ -222,8 +241,10 @@ static void slices_until_stored(uint32_t words)
     must(stored() == words, "too many words came");
 }
 
+/* With the serial of their message. */
 static void readings_are_those_sent(void)
 {
+    must(serial_given == sent.serial && serial_of_transmitter() == sent.serial, "the readings come with another serial");
     for (uint32_t i = 0; i < sent.sensors; i++)
         must(given[i] == sent.reading[i], "a reading received is not the one that was sent");
 }
@@ -241,6 +262,7 @@ static void arrives_as(unsigned number)
     received(BOARD_NOT_COMPLETE);
     own_slice(true);
     must(status_of_receiver() & PCL_RSR_CHN_OPN, "the message is not opened");
+    sent.serial++;
     received(BOARD_NOT_COMPLETE);
     while (own < last_slice() + 5) {
         own += slice(true);
@@ -358,6 +380,7 @@ static void words_in_the_silo(void)
     }
     own_slice(false);
     received(BOARD_DONE);
+    sent.serial++;                                              /* by the one opening */
     readings_are_those_sent();
 }
 
@@ -504,6 +527,84 @@ static void past_the_memory(void)
     received(BOARD_WRONG_LENGTH);
 }
 
+/* ---- this message and the last, told apart by the serial */
+
+/* T's next message. The serial that its readings come with is looked at there, and here in a number. */
+static void next_arrives(unsigned serial)
+{
+    build_message(1 + below(5));
+    ready(sent.words, true);
+    send();
+    arrives();
+    received(BOARD_DONE);                                       /* once more, and still the same */
+    must(serial_given == serial, "not the serial of this message");
+}
+
+/* A second success is not the first; whatever R, and the other side of either unit, had before; after 65,535 comes 0. */
+static void one_after_the_other(void)
+{
+    for (uint32_t ends = 0; ends < 4; ends++) {
+        fit_link(2, ends & 1, ends >> 1);
+        next_arrives(1);
+        next_arrives(2);
+        put_serial(sent.r, PCL_RECEIVER, 4711);
+        put_serial(sent.r ^ 1, PCL_RECEIVER, 815);
+        put_serial(sent.t ^ 1, PCL_TRANSMITTER, 333);
+        put_serial(sent.t, PCL_TRANSMITTER, sent.serial = 65534);
+        next_arrives(65535);
+        next_arrives(0);
+        next_arrives(1);
+    }
+}
+
+/* Each transmitter counts by itself, and its openings to every receiver; each receiver has that of its own last message. */
+static void three_hosts(void)
+{
+    fit_link(3, 0, 2);
+    next_arrives(1);
+    next_arrives(2);
+    sent.t = 1;
+    sent.serial = 0;
+    next_arrives(1);                                            /* R's serial before it was 2 */
+    sent.r = 0;
+    next_arrives(2);
+    sent.r = 2;
+    receive(BOARD_KIND, sent.r, bytes_of(sent.to), PCL_MEMORY_MOST, BOARD_SENSORS_MOST, BOARD_DONE);
+    must(serial_given == 1, "another receiver's message gave this one its serial");
+    next_arrives(3);
+}
+
+/* A message broken off in its middle at either end. Nothing changes its serial but the next opening. */
+static void after_a_restart(void)
+{
+    for (unsigned how = 0; how < 4; how++) {
+        fit_link(3, 0, 1);
+        next_arrives(1);
+        build_message_and_more(1, 6);
+        ready(32768, true);
+        send();
+        slices_until_stored(BOARD_WORDS(1));
+        must(serial_of_transmitter() == 2, "not the second opening");
+        switch (how) {
+        case 0: call_write(sent.t, PCL_TCR, PCL_TCR_TX_INIT); break;
+        case 1: call_write(sent.r, PCL_RCR, PCL_RCR_RC_INIT); break;
+        case 2: call_reset(sent.t); break;
+        default: call_reset(sent.r); break;
+        }
+        own_slices_in_vain(3);
+        build_message(1);
+        send();
+        own_slices_in_vain(2);                                  /* R is still open, or not ready: this opens nothing */
+        must(serial_of_transmitter() == 2, "an INIT, a reset or an opening that was refused changed a serial");
+        call_write(sent.t, PCL_TCR, PCL_TCR_TX_INIT);
+        call_write(sent.r, PCL_RCR, PCL_RCR_RC_INIT);
+        sent.serial = 2;
+        next_arrives(3);
+    }
+    fit_link(3, 0, 1);
+    next_arrives(1);
+}
+
 /* ---- every refusal alone, and every two at once */
 
 enum { PLACE = 40, END = PLACE + (int)BOARD_WORDS(5) };
@@ -525,7 +626,7 @@ enum { GOOD, UNITS_17, UNITS_65535, MASTER_3, CELL_LESS, TWO_CELLS, ONE_CELL, NO
 static struct lent state_lent(unsigned state, size_t memory_length)
 {
     static uint16_t copy[PCL_CELLS(2)];
-    struct lent lent = { copy, PCL_CELLS(2), memory_length, state == GOOD ? read_second : read_nothing };
+    struct lent lent = { copy, PCL_CELLS(2), memory_length, state == GOOD ? &as_fitted : &out_of_range };
 
     memcpy(copy, cells, sizeof copy);
     switch (state) {
@@ -571,6 +672,8 @@ static void refusals_in_receiving(void)
     static const uint32_t counts[] = { 5, 0, 4, 6, 65 };
 
     fit_link(2, 1, 0);
+    put_serial(0, PCL_RECEIVER, 4711);                          /* which no refusal shows */
+    put_serial(0, PCL_TRANSMITTER, 815);
     call_write(0, PCL_RDBA, 2 * END);
     for (size_t status = 0; status < COUNT(statuses); status++) {
         call_write(0, PCL_RSR, 0);
@@ -628,14 +731,14 @@ static void receive_some(void)
     uint32_t unit = some_unit(), first, kind = once_in(20) ? bad_number() : BOARD_KIND;
     size_t memory_length = once_in(9) ? below(PCL_MEMORY_MOST + 1) : once_in(9) ? PCL_MEMORY_MOST : end_of_received(unit);
     size_t room = once_in(20) ? below(ROOM_MOST) : 64 + below(3);
-    struct lent lent = { cells, PCL_CELLS(l.units), memory_length, read_second };
+    struct lent lent = { cells, PCL_CELLS(l.units), memory_length, &as_fitted };
 
     if (once_in(2))
         call_write(unit, PCL_RSR, PCL_RSR_SUC_TXF | perhaps(1u << below(16), 3));
     first = plant_message(unit);
     if (once_in(20)) {
         lent.cells_length -= 1 + below((uint32_t)lent.cells_length);
-        lent.read = read_nothing;
+        lent.link = &out_of_range;
     }
     receive_from(&lent, kind, unit, first, room, WHATEVER);
 }
@@ -644,7 +747,7 @@ static void random_states(unsigned long long wanted)
 {
     static const unsigned numbers[] = { BOARD_DONE, BOARD_NOT_COMPLETE, BOARD_WRONG_LENGTH, BOARD_UNKNOWN_KIND, BOARD_WRONG_COUNT,
                                         BOARD_BAD_ROOM, BOARD_LINK + PCL_NOT_FITTED, BOARD_LINK + PCL_BAD_ROOM };
-    unsigned long long before[COUNT(by_number)], end = receives + wanted;
+    unsigned long long before[COUNT(by_number)], serials = with_serial, end = receives + wanted;
     bool answered[COUNT(by_number)] = { false };
 
     memcpy(before, by_number, sizeof before);
@@ -660,6 +763,7 @@ static void random_states(unsigned long long wanted)
         answered[numbers[i]] = true;
     for (unsigned number = 0; number < NUMBERS; number++)
         must((by_number[number] > before[number]) == answered[number], "a number was never answered at random, or one that there is not");
+    must(with_serial > serials, "no serial but 0 was answered at random");
 }
 
 int main(int count, char **arguments)
@@ -687,6 +791,9 @@ int main(int count, char **arguments)
     damaged_on_the_way();
     given_up();
     past_the_memory();
+    one_after_the_other();
+    three_hosts();
+    after_a_restart();
     refusals_in_receiving();
     random_states(wanted);
     printf("board: %llu times received as by the second, over %llu calls of the link; %llu times with readings\n",

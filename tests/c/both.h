@@ -1,7 +1,8 @@
 /* both.h - the archive and the second library side by side. Each call is made on
  * both; then the two answers have to be equal, the archive's cells have to be
- * docs/STATE.md's form of the second library's state, and the registers, levels
- * and memories have to show the same. The first difference ends the program.
+ * docs/STATE.md's form of the second library's state, and the registers, levels,
+ * serials and memories have to show the same. The first difference ends the
+ * program.
  *
  * Where cells were damaged, the second library reads them by docs/STATE.md, and
  * from then to the next fit the archive's cells have to be read as its state.
@@ -119,6 +120,15 @@ static void look_at_registers(const char *call)
     }
 }
 
+/* The serial of every side, as the call for it shows it. */
+static void look_at_serials(const char *call)
+{
+    for (uint32_t unit = 0; unit < l.units; unit++)
+        for (uint32_t side = 0; side < 2; side++)
+            must_agree(call, "serial", side, unit, pcl_serial(cells, PCL_CELLS_MOST, unit, side),
+                       second_serial(&l, unit, side));
+}
+
 static void look_at_memory(const char *call, uint32_t unit, size_t words)
 {
     if (!memcmp(memory[unit], memory_of_second[unit], words * sizeof(uint16_t)))
@@ -133,6 +143,7 @@ static inline void look_everywhere(const char *call)
     if (depth == ANSWERS)
         memcpy(cells_before, cells, sizeof cells);
     look_at_cells(call, PCL_DONE);
+    look_at_serials(call);
     look_at_registers(call);
     for (uint32_t unit = 0; unit < PCL_UNITS_MOST; unit++)
         look_at_memory(call, unit, PCL_MEMORY_MOST);
@@ -147,6 +158,7 @@ static uint32_t look(const char *call, uint64_t archive, uint64_t second)
         if (untidy)
             look_at_damaged_cells(call);
         look_at_cells(call, pcl_number(archive));
+        look_at_serials(call);
         memcpy(cells_before, cells, sizeof cells);
     }
     if (depth >= EVERYTHING)
@@ -229,6 +241,22 @@ static uint32_t call_level(uint32_t unit, uint32_t side)
 {
     puts_nothing();
     return look("level", pcl_level(cells, PCL_CELLS_MOST, unit, side), second_interrupt_level(&l, unit, side));
+}
+
+static inline uint32_t call_serial(uint32_t unit, uint32_t side)
+{
+    puts_nothing();
+    return look("serial", pcl_serial(cells, PCL_CELLS_MOST, unit, side), second_serial(&l, unit, side));
+}
+
+/* No call, but the cell written: every value of it is one that calls leave. */
+static inline void put_serial(uint32_t unit, uint32_t side, uint16_t serial)
+{
+    struct second_unit *u = &l.unit[unit];
+    size_t place = block_at(unit) + (side == PCL_RECEIVER ? RECEIVER : TRANSMITTER) + SERIAL;
+
+    *(side == PCL_RECEIVER ? &u->receiver.side.serial : &u->transmitter.side.serial) = serial;
+    cells[place] = cells_before[place] = serial;
 }
 
 #endif

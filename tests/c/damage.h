@@ -22,7 +22,7 @@ static void read_damage(void)
 static void damage_unit(uint32_t unit, uint32_t least)
 {
     static const uint32_t heads[] = { 0, TRANSMITTER, RECEIVER, SECTION };
-    uint32_t first = once_in(2) ? heads[below(4)] + below(8) : below(BLOCK);
+    uint32_t first = once_in(2) ? heads[below(4)] + below(SILO) : below(BLOCK);
     uint32_t count = once_in(3) ? 1 : once_in(3) ? BLOCK : 1 + below(12);
     uint16_t *block = cells + block_at(unit);
 

@@ -2,9 +2,10 @@
  * one unit. talk.h and scenes.h make scenes of them.
  *
  * Who includes it defines the calls below and keeps `l`, the second library's
- * state after each of them, which is looked at to choose the next. DRIVE_MEMORY
- * is the length of every memory, or 0 for any; DRIVE_MOST the largest number
- * that a call can be given. */
+ * state after each of them, which is looked at to choose the next. put_serial is
+ * no call: it gives a side a serial, as so many openings would, or does nothing
+ * where nobody can. DRIVE_MEMORY is the length of every memory, or 0 for any;
+ * DRIVE_MOST the largest number that a call can be given. */
 #ifndef DRIVE_H
 #define DRIVE_H
 
@@ -22,6 +23,8 @@ static uint64_t call_move(uint32_t unit, uint32_t side, size_t lent);
 static uint32_t call_period(uint32_t unit);
 static uint32_t call_reset(uint32_t unit);
 static uint32_t call_level(uint32_t unit, uint32_t side);
+static uint32_t call_serial(uint32_t unit, uint32_t side);
+static void put_serial(uint32_t unit, uint32_t side, uint16_t serial);
 
 enum { BOTH_COMMANDS = PCL_TCR_ST_TXM | PCL_TCR_SND_WD };   /* at R: RCV DAT, RCV WD */
 
@@ -46,6 +49,17 @@ static uint32_t some_memory(void)
     return once_in(4) ? PCL_MEMORY_MOST : once_in(4) ? 1 + below(PCL_MEMORY_MOST) : 1 + below(300);
 }
 
+/* After a fit: a side's serial stays 0, is any, or soon goes round, for which
+ * no scene is long enough from 0 on. No channel is open then, so that two ends of
+ * one still have their serial from its opening. */
+static void give_serials(void)
+{
+    for (uint32_t u = 0; u < l.units; u++)
+        for (uint32_t side = 0; side < 2; side++)
+            if (once_in(2))
+                put_serial(u, side, once_in(2) ? (uint16_t)(0xFFFF - below(4)) : any_word());
+}
+
 static void fit_units(uint32_t units, uint32_t counter_switch)
 {
     uint32_t setup[PCL_SETUP(PCL_UNITS_MOST)];
@@ -57,6 +71,7 @@ static void fit_units(uint32_t units, uint32_t counter_switch)
         setup[4 * u + 3] = some_memory();
     }
     call_fit(setup, PCL_SETUP(units));
+    give_serials();
 }
 
 /* Set-ups of which some break a rule. */
@@ -70,7 +85,8 @@ static void fit_some(void)
         setup[4 * u + 2] = once_in(60) ? bad_number() : 2 + below(once_in(4) ? 30 : 3);
         setup[4 * u + 3] = once_in(60) && !DRIVE_MEMORY ? below(PCL_MEMORY_MOST + 9) : some_memory();
     }
-    call_fit(setup, once_in(50) && !DRIVE_MEMORY ? below(81) : PCL_SETUP(units));
+    if (call_fit(setup, once_in(50) && !DRIVE_MEMORY ? below(81) : PCL_SETUP(units)) == PCL_DONE)
+        give_serials();
 }
 
 /* The word, or one of its bytes, or a byte in the wrong place. */
@@ -268,7 +284,7 @@ static void pass_time(uint32_t u)
 
 static void odd_call(uint32_t u)
 {
-    switch (below(20)) {
+    switch (below(21)) {
     case 0: write_transmitter_command(u); break;
     case 1: write_receiver_command(u); break;
     case 2: write_status(u, PCL_TSR); break;
@@ -287,6 +303,7 @@ static void odd_call(uint32_t u)
     case 16: depose_master(); break;
     case 17: pass_time(u); break;
     case 18: if (once_in(4)) miss_address(u); break;
+    case 19: call_serial(u, some_side()); break;
     default: forge_crc(); break;
     }
 }

@@ -1,6 +1,8 @@
 /* restarts.h - a message that is broken off in its middle at one end, and what
  * comes then: document 02's request No. 1. The answers that it asks for are
- * looked at here, in words that do not come from the second library's code. */
+ * looked at here, in words that do not come from the second library's code; and
+ * so are the serials of request No. 6, which an INIT, a reset and an opening that
+ * is refused leave as they are. */
 #ifndef RESTARTS_H
 #define RESTARTS_H
 
@@ -38,6 +40,7 @@ enum { OF_T, OF_ANOTHER, OF_R };
 static const struct second_transmitter *the_t(void) { return &l.unit[OF_T].transmitter; }
 static const struct second_receiver *the_r(void) { return &l.unit[broken.r].receiver; }
 static bool holds_channel_of(uint32_t unit) { return the_r()->side.open && (the_r()->side.command >> 8 & 31) == unit + 1; }
+static uint16_t serial_at(uint32_t unit) { return l.unit[unit].transmitter.side.serial; }
 
 static void fit_three(void)
 {
@@ -130,12 +133,15 @@ static void come_to_it(void)
 
 static void break_off(uint32_t by)
 {
+    uint16_t of_t = serial_at(OF_T), of_r = the_r()->side.serial;
+
     switch (by) {
     case BY_TX_INIT: call_write(OF_T, PCL_TCR, PCL_TCR_TX_INIT); break;
     case BY_RC_INIT: call_write(broken.r, PCL_RCR, PCL_RCR_RC_INIT); break;
     case BY_RESET_OF_T: call_reset(OF_T); break;
     default: call_reset(broken.r); break;
     }
+    must(serial_at(OF_T) == of_t && the_r()->side.serial == of_r, "an INIT or a reset changed a serial");
     if (!l.master)
         take_mastership(broken.master);
 }
@@ -194,8 +200,10 @@ static uint32_t opening_slice(uint32_t t, uint32_t r, bool taken)
 static void open_again(void)
 {
     const struct second_side *before = &r_before.side, *after = &the_r()->side;
+    uint16_t serial = serial_at(OF_T);
 
     must(got(opening_slice(OF_T, broken.r, false), 2, 0), "an opening word at the open receiver does not get 00");
+    must(serial_at(OF_T) == serial && after->serial == before->serial, "an opening that is refused changed a serial");
     must(!after->open && !(after->command & (BOTH_COMMANDS | PCL_RCR_REJ)), "the receiver is not closed");
     must((after->status & ~15u) == ((before->status & ~15u) | PCL_RSR_TXM_ERR), "not TXM ERR alone");
     must((after->status & 15) == (before->status & 0x7E00 ? before->status & 15 : 2), "other codes than A 10 and B 00");
@@ -208,6 +216,7 @@ static void open_again(void)
 static void open_to_r(uint32_t t)
 {
     bool taken = would_open(the_r());
+    uint16_t serial = (uint16_t)(serial_at(t) + taken);
 
     if (t == OF_T && holds_channel_of(OF_T)) {
         open_again();
@@ -215,12 +224,14 @@ static void open_to_r(uint32_t t)
     }
     must(got(opening_slice(t, broken.r, taken), 2, taken ? 3 : 0), "an opening word is not answered by rules 1 and 2");
     must(taken || !memcmp(the_r(), &r_before, sizeof r_before), "the receiver changed");
+    must(serial_at(t) == serial && (!taken || the_r()->side.serial == serial), "not the next serial, or not at both ends");
 }
 
 /* "A closed receiver answers 00 to anything but an opening word, a CRC included", and so does one that another has opened since. T
  * sends what it would have sent, and closes: with TXM ERR, or where it sent 00 with the error it had. */
 static void go_on(void)
 {
+    uint16_t serial = serial_at(OF_T);
     uint32_t before = the_t()->side.status, answer = served(OF_T, any_word(), below(2));
     uint32_t after = broken.at == AT_ERROR ? before : (before & ~15u) | PCL_TSR_TXM_ERR | next_a[broken.at];
 
@@ -228,16 +239,19 @@ static void go_on(void)
     must(pcl_b(answer) == 0, "a word that is none of its channel is not answered 00");
     must(!memcmp(the_r(), &r_before, sizeof r_before), "a closed receiver changed");
     must(!the_t()->side.open && the_t()->side.status == after, "T is not closed with TXM ERR alone, or other codes");
+    must(serial_at(OF_T) == serial, "closing changed a serial");
 }
 
 /* T opens to another receiver, and R, whether it still holds T's channel or not, has no part in it. */
 static void open_to_another(void)
 {
     struct second_receiver old = *the_r();
+    uint16_t serial = (uint16_t)(serial_at(OF_T) + 1);
 
     call_write(OF_ANOTHER, PCL_RCR, BOTH_COMMANDS);
     must(got(opening_slice(OF_T, OF_ANOTHER, true), 2, 3), "another receiver does not open");
     must(!memcmp(the_r(), &old, sizeof old), "the old receiver changed");
+    must(serial_at(OF_T) == serial && l.unit[OF_ANOTHER].receiver.side.serial == serial, "not the next serial at both ends");
 }
 
 /* The hosts begin anew, the other one keeps quiet, and the message is whole. */
@@ -261,6 +275,7 @@ static void begin_anew(void)
         send_word_to_r(any_word(), true);
     must(got(served(OF_T, 0, 0), 3, 1) && got(served(OF_T, 0, 0), 3, 3), "the message does not end");
     must((the_t()->side.status & 0x7EB0) == PCL_TSR_SUC_TXF && (the_r()->side.status & 0x7EA0) == PCL_RSR_SUC_TXF, "no success");
+    must(serial_at(OF_T) == the_r()->side.serial, "the two ends show different serials at success");
 }
 
 /* One of the RESTARTS, all different. */
@@ -274,6 +289,7 @@ static void restart(uint32_t number)
     broken.r = broken.itself ? OF_T : OF_R;
     broken.master = below(2);
     fit_three();
+    give_serials();
     come_to_it();
     break_off(broken.by);
     leave_receiver();

@@ -8,12 +8,14 @@
 #include "second.h"
 
 enum {
-    UNITS = 0, MASTER = 1, FIRST_BLOCK = 2, BLOCK = 214,                /* cells of a link */
-    TRANSMITTER = 4, RECEIVER = 76, SECTION = 148,                      /* .. of a block */
+    UNITS = 0, MASTER = 1, FIRST_BLOCK = 2, BLOCK = 216,                /* cells of a link */
+    TRANSMITTER = 4, RECEIVER = 77, SECTION = 150,                      /* .. of a block */
     HELD = 0, WORDS = 1, LATCHED = 2, TRUNCATED = 2, ADDRESS = 3, COUNT_LEFT = 4,
-    COMMAND = 5, STATUS = 6, CRC = 7, SILO = 8,                         /* .. of a side */
+    COMMAND = 5, STATUS = 6, CRC = 7, SERIAL = 8, SILO = 9,             /* .. of a side */
     SECTION_WORD = 1, ADDRESSES = 2                                     /* .. of a master section */
 };
+
+_Static_assert(PCL_CELLS_MOST == FIRST_BLOCK + BLOCK * PCL_UNITS_MOST, "pcl.h asks for other cells than these");
 
 static inline size_t block_at(size_t unit) { return FIRST_BLOCK + BLOCK * unit; }
 
@@ -33,6 +35,7 @@ static inline void side_as_cells(const struct second_side *s, uint16_t *c)
     c[COMMAND] = (uint16_t)(s->command | s->loaded << 1 | s->mark << 3);
     c[STATUS] = s->status;
     c[CRC] = s->crc;
+    c[SERIAL] = s->serial;
     for (unsigned i = 0; i < s->silo.held; i++)
         c[SILO + i] = s->silo.word[(s->silo.first + i) % SECOND_RING];
 }
@@ -90,6 +93,7 @@ static inline void side_of_cells(const uint16_t *c, struct second_side *s)
     s->command = c[COMMAND] & (uint16_t)~(1u << 1 | 1u << 3);
     s->loaded = c[COMMAND] >> 1 & 1;
     s->crc = c[CRC];
+    s->serial = c[SERIAL];
 }
 
 static inline void transmitter_of_cells(const uint16_t *c, struct second_transmitter *t)

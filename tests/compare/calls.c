@@ -1,7 +1,8 @@
-/* calls.c - messages broken off in every way, two ends that only cells of other
- * making put out of step, and random scenes, on the archive and the second
- * library, compared after every call; after each scene states that number 9
- * refuses, on the archive alone, and units whose cells hold anything, on both.
+/* calls.c - messages broken off in every way, serials that go round, two ends that
+ * only cells of other making put out of step, and random scenes, on the archive
+ * and the second library, compared after every call; after each scene states that
+ * number 9 refuses, on the archive alone, and units whose cells hold anything, on
+ * both.
  *
  * calls [calls [seed]] */
 #define DRIVE_MEMORY 0
@@ -10,7 +11,7 @@
 #include "scenes.h"
 #include "reached.h"
 
-static unsigned long long refused, damages;
+static unsigned long long refused, damages, in_a_row;
 static uint16_t copy[PCL_CELLS_MOST], copy_before[PCL_CELLS_MOST];
 
 static void must(bool holds, const char *what)
@@ -26,7 +27,7 @@ static uint64_t any_call(size_t length)
 {
     uint32_t unit = some_unit(), place = unit % PCL_UNITS_MOST, side = some_side();
 
-    switch (below(8)) {
+    switch (below(9)) {
     case 0: return pcl_read(copy, length, unit, below(34));
     case 1: return pcl_write(copy, length, unit, below(34), any_word());
     case 2: return pcl_write_byte(copy, length, unit, below(34), (uint8_t)below(256));
@@ -34,7 +35,8 @@ static uint64_t any_call(size_t length)
     case 4: return pcl_move(copy, length, memory[place], PCL_MEMORY_MOST, unit, side);
     case 5: return pcl_period(copy, length, unit);
     case 6: return pcl_reset(copy, length, unit);
-    default: return pcl_level(copy, length, unit, side);
+    case 7: return pcl_level(copy, length, unit, side);
+    default: return pcl_serial(copy, length, unit, side);
     }
 }
 
@@ -156,6 +158,113 @@ static void break_messages(uint32_t step)
          && was_reached("rc_init_open"), "a restart leads nowhere");
 }
 
+/* Document 02's request No. 6, by the answers of its call: what T has to show, the receiver of its own unit, and R. A receiver that is
+ * not opened keeps its own. */
+static struct { uint16_t of_t, own, of_r; } serials;
+
+static bool shows(uint32_t unit, uint32_t side, uint16_t serial) { return call_serial(unit, side) == (uint32_t)serial << 16; }
+
+static void look_at_three_serials(const char *what)
+{
+    must(shows(OF_T, PCL_TRANSMITTER, serials.of_t) && shows(OF_T, PCL_RECEIVER, serials.own)
+         && shows(OF_R, PCL_RECEIVER, serials.of_r), what);
+}
+
+static void fit_with_serials(uint16_t of_t, uint16_t own, uint16_t of_r)
+{
+    broken.master = OF_ANOTHER;
+    fit_three();
+    serials.of_t = serials.own = serials.of_r = 0;
+    look_at_three_serials("a fit does not give 0");
+    serials.of_t = of_t, serials.own = own, serials.of_r = of_r;
+    put_serial(OF_T, PCL_TRANSMITTER, of_t);
+    put_serial(OF_T, PCL_RECEIVER, own);
+    put_serial(OF_R, PCL_RECEIVER, of_r);
+}
+
+/* T sends a word to one of the two, which does not want it yet, and then does. Lines of the opening slice may be damaged; the serial is
+ * none of them. */
+static void raise_serial(uint32_t r, uint32_t data_mask, uint32_t parity_mask)
+{
+    broken.r = r;
+    call_write(OF_T, PCL_TSR, 0);
+    call_write(r, PCL_RSR, 0);
+    call_write(OF_T, PCL_TSDB, any_word());
+    call_write(OF_T, PCL_TCR, PCL_TCR_DESTINATION(receiver_of(r)) | BOTH_COMMANDS | PCL_TCR_RIB);
+    must(got(served(OF_T, 0, 0), 2, 0), "a receiver opens unasked");
+    look_at_three_serials("an opening that is refused changed a serial");
+    call_write(r, PCL_RCR, BOTH_COMMANDS);
+    must(got(served(OF_T, data_mask, parity_mask), 2, 3), "no opening");
+    serials.of_t = serials.of_t == 65535 ? 0 : serials.of_t + 1;
+    *(r == OF_R ? &serials.of_r : &serials.own) = serials.of_t;
+    look_at_three_serials("not one more at the transmitter, or not the same at the receiver");
+}
+
+/* How the channel closes. */
+enum { BY_SUCCESS, BY_TRUNCATION, BY_REJECTION, BY_ERROR, BY_INITS, BY_RESETS, CLOSINGS };
+
+static void close_by(uint32_t closing)
+{
+    uint32_t r = broken.r;
+
+    switch (closing) {
+    case BY_SUCCESS:
+        call_read(r, PCL_RDDB);
+        must(got(served(OF_T, 0, 0), 3, 1) && got(served(OF_T, 0, 0), 3, 3), "no success");
+        break;
+    case BY_TRUNCATION:
+        call_write(OF_T, PCL_TCR, 0);
+        call_write(r, PCL_RCR, PCL_RCR_REJ | PCL_RCR_RCV_DAT);
+        must(got(served(OF_T, 0, 0), 1, 1) && got(served(OF_T, 0, 0), 3, 1) && got(served(OF_T, 0, 0), 3, 3), "no truncation");
+        break;
+    case BY_REJECTION: call_write(r, PCL_RCR, PCL_RCR_REJ); must(got(served(OF_T, 0, 0), 3, 1), "no rejection"); break;
+    case BY_ERROR: call_write(OF_T, PCL_TSR, PCL_TSR_TIM_OUT); must(got(served(OF_T, 0, 0), 0, 0), "no error"); break;
+    case BY_INITS: call_write(OF_T, PCL_TCR, PCL_TCR_TX_INIT); call_write(r, PCL_RCR, PCL_RCR_RC_INIT); break;
+    default: call_reset(OF_T); call_reset(r); break;
+    }
+    must(!the_t()->side.open && !the_r()->side.open, "a channel stays open");
+    look_at_three_serials("closing changed a serial");
+    call_read(r, PCL_RDDB);                                 /* what it may have left there */
+}
+
+/* Every closing, from serials on at the ends of the range, of a half of it and of a byte, to receivers that had T's own, its next, or
+ * any. */
+static void serials_from_anywhere(void)
+{
+    static const uint16_t starts[] = { 0, 1, 0xFE, 0xFF, 0x7FFE, 0x7FFF, 0x8000, 0xFEFF, 0xFFFD, 0xFFFE, 0xFFFF };
+
+    for (size_t i = 0; i < sizeof starts / sizeof starts[0]; i++)
+        for (uint32_t closing = 0; closing < CLOSINGS; closing++) {
+            /* A message that is to end well is not damaged, and where R's rules 5 and 6 are to be reached its parity is good. */
+            uint32_t damage = closing <= BY_TRUNCATION ? 0 : closing <= BY_ERROR ? 3u << below(15) : any_word();
+
+            fit_with_serials(starts[i], once_in(2) ? starts[i] : any_word(), once_in(2) ? (uint16_t)(starts[i] + 1) : any_word());
+            for (uint32_t k = 0; k < 4; k++) {
+                raise_serial(k % 2 ? OF_R : OF_T, damage, closing <= BY_ERROR ? 0 : below(2));
+                close_by(closing);
+            }
+        }
+    must(was_reached("serial_goes_round") && was_reached("serial_copied_over_another") && was_reached("tx_init_keeps_serial")
+         && was_reached("rc_init_keeps_serial"), "no serial goes round, or none is kept");
+}
+
+/* 65,536 openings in a row since a fit, to the two receivers in turn, closed in every way: T is at 0 again. */
+static void serials_go_round(void)
+{
+    fit_with_serials(0, 0, 0);
+    depth = ANSWERS;                                        /* all else is looked at once in 4096 openings */
+    in_a_row = calls;
+    for (uint32_t i = 0; i < 65536; i++) {
+        raise_serial(i % 2 ? OF_R : OF_T, 0, 0);
+        close_by(i / 2 % CLOSINGS);
+        if (i % 4096 == 4095)
+            look_everywhere("openings in a row");
+    }
+    in_a_row = calls - in_a_row;
+    depth = EVERYTHING;
+    must(serials.of_t == 0 && serials.of_r == 0 && serials.own == 65535, "not 65,536 openings");
+}
+
 /* A channel in mid-message, T with a word to send, and one of the two ends' cells changed. */
 static uint16_t *open_channel(uint32_t unit, uint32_t place)
 {
@@ -189,6 +298,22 @@ static void out_of_step(void)
     must(got(served(OF_T, 0, 0), 2, 1), "no truncation again");
     must(was_reached("rule_7_again") && was_reached("rule_8_due_taken_is_a_word") && was_reached("rule_8_due_good_of_a_word")
          && was_reached("rule_9_stored_a_crc") && was_reached("rule_9_verdict_stands"), "ends out of step lead nowhere");
+}
+
+/* Two ends of a channel whose serials differ. No call leads there; no rule looks at them, each end shows its own, and the next opening
+ * has T's next at both. */
+static void serials_that_differ(void)
+{
+    *open_channel(OF_R, RECEIVER + SERIAL) = 0x1234;
+    read_damage();
+    must(got(served(OF_T, 0, 0), 2, 3), "a serial stops a word");
+    must(shows(OF_T, PCL_TRANSMITTER, 1) && shows(OF_R, PCL_RECEIVER, 0x1234), "an end shows another serial than its cell's");
+    call_write(OF_T, PCL_TCR, PCL_TCR_TX_INIT);
+    call_write(OF_R, PCL_RCR, PCL_RCR_RC_INIT);
+    must(shows(OF_T, PCL_TRANSMITTER, 1) && shows(OF_R, PCL_RECEIVER, 0x1234), "an INIT changed a serial");
+    call_write(OF_R, PCL_RCR, BOTH_COMMANDS);
+    must(got(opening_slice(OF_T, OF_R, true), 2, 3) && shows(OF_T, PCL_TRANSMITTER, 2) && shows(OF_R, PCL_RECEIVER, 2),
+         "not T's next serial at both ends");
 }
 
 /* "That same transmitter" is told by its address: another unit that has come to have it. */
@@ -230,7 +355,10 @@ int main(int count, char **arguments)
     last_word();
     missing_addresses();
     break_messages(wanted < 1000000 ? 17 : 1);  /* 17 shares no divisor with RESTARTS */
+    serials_from_anywhere();
+    serials_go_round();
     out_of_step();
+    serials_that_differ();
     another_with_its_address();
     wanted += calls;
     while (calls < wanted) {
@@ -239,7 +367,7 @@ int main(int count, char **arguments)
     }
     look_everywhere("the end");
     look_at_openings();
-    printf("calls: %llu calls the same in every cell, register and word, %llu damages on the way; %llu bad headers refused\n", calls,
-           damages, refused);
+    printf("calls: %llu calls the same in every cell, register, serial and word, %llu damages on the way; %llu more in their answers, "
+           "with 65,536 openings in a row; %llu bad headers refused\n", calls - in_a_row, damages, in_a_row, refused);
     return 0;
 }

@@ -2,7 +2,8 @@
  * words, opened under document 01's conditions, succeeds at both ends on exactly
  * T's slice n - 1 + 2 x (n/128 rounded up) after the opening, within L times as
  * many slices, and the receiving memory holds exactly its words; also beside
- * units whose cells hold anything at the opening.
+ * units whose cells hold anything at the opening. From the opening to the success
+ * both ends show the serial that is T's next.
  *
  * delivery [rounds [seed]] */
 #define DRIVE_MEMORY PCL_MEMORY_MOST
@@ -116,10 +117,11 @@ static void bystander_call(uint32_t u)
 /* What is allowed anywhere, T and R included, and calls that are refused. */
 static void harmless_call(uint32_t u)
 {
-    switch (below(4)) {
+    switch (below(5)) {
     case 0: call_read(u, 2 * below(14)); break;
     case 1: call_level(u, below(2)); break;
-    case 2: must(call_slice(any_word(), 2 + below(9)) == PCL_BAD_SETUP, "a parity mask above 1 is taken"); break;
+    case 2: call_serial(u, below(2)); break;
+    case 3: must(call_slice(any_word(), 2 + below(9)) == PCL_BAD_SETUP, "a parity mask above 1 is taken"); break;
     default: must(pcl_slice(cells, below((uint32_t)PCL_CELLS(l.units)), 0, 0) == PCL_BAD_ROOM, "too little room is taken"); break;
     }
 }
@@ -172,6 +174,13 @@ static uint32_t codes_at(uint32_t i)
 
 static uint32_t status(uint32_t unit, uint32_t offset) { return pcl_value(pcl_read(cells, PCL_CELLS_MOST, unit, offset)); }
 
+static uint16_t serial_of_t(void) { return (uint16_t)pcl_value(pcl_serial(cells, PCL_CELLS_MOST, trial.t, PCL_TRANSMITTER)); }
+
+static bool both_show(uint16_t serial)
+{
+    return serial_of_t() == serial && pcl_serial(cells, PCL_CELLS_MOST, trial.r, PCL_RECEIVER) == (uint32_t)serial << 16;
+}
+
 /* Whatever the cells of the other units hold, but for their addresses: it is T that has T's. */
 static void damage_others(void)
 {
@@ -183,6 +192,7 @@ static void damage_others(void)
 static void run_message(void)
 {
     uint32_t own = 0, after = 0, answer;
+    uint16_t serial = (uint16_t)(serial_of_t() + 1);
 
     do {
         if (trial.damaged && next_address() == t_address())
@@ -192,6 +202,7 @@ static void run_message(void)
     must(pcl_value(answer) >> 5 == 14, "not opened");
     while (own < last_slice()) {
         must(!(status(trial.t, PCL_TSR) & 0x80B0) && !(status(trial.r, PCL_RSR) & 0x80A0), "a status bit before the end");
+        must(both_show(serial), "another serial before the end");
         answer = one_slice(true);
         must(++after <= trial.cycle * last_slice(), "not within L times as many slices");
         if (pcl_address(answer) != t_address())
@@ -201,6 +212,7 @@ static void run_message(void)
     }
     must((status(trial.t, PCL_TSR) & 0x80B0) == PCL_TSR_SUC_TXF, "no success at T");
     must((status(trial.r, PCL_RSR) & 0x80B0) == PCL_RSR_SUC_TXF, "no success at R");
+    must(both_show(serial), "another serial at success");
 }
 
 static void deliver(void)

@@ -103,6 +103,10 @@ static uint32_t call_level(uint32_t unit, uint32_t side)
     return second_interrupt_level(&l, unit, side);
 }
 
+/* No record shows a serial or sets one. */
+static uint32_t call_serial(uint32_t unit, uint32_t side) { return second_serial(&l, unit, side); }
+static void put_serial(uint32_t unit, uint32_t side, uint16_t serial) { (void)unit, (void)side, (void)serial; }
+
 /* Every register of every unit, by reads: what the scenes have left. */
 static void read_all(void)
 {
@@ -165,7 +169,7 @@ int main(int count, char **arguments)
         if (fclose(file) != 0)
             return 2;
     }
-    if (wrongly_reached("scripts", "tx_move_overflow rc_move_overflow number_move_9 "))
+    if (wrongly_reached("scripts", "tx_move_overflow rc_move_overflow number_move_9 serial_goes_round "))
         return 1;
     printf("scripts: %llu records in %u scripts, everything reached that %d words of memory allow\n", records, files, DRIVE_MEMORY);
     return 0;

@@ -7,7 +7,9 @@
 
 enum { SCRIPT_MEMORY = 64 };
 
-/* A fit answered 0 gives memories of zero words. */
+/* A fit answered 0 gives memories of zero words. Its serials are 0, which call_fit
+ * has looked at; then each side gets one of its own here, and a transmitter one
+ * that soon goes round, for which no script is long enough from 0 on. */
 static uint32_t fit_both(const uint32_t *setup, size_t length)
 {
     uint32_t answer = call_fit(setup, length);
@@ -15,6 +17,10 @@ static uint32_t fit_both(const uint32_t *setup, size_t length)
     for (uint32_t unit = 0; answer == PCL_DONE && unit < PCL_UNITS_MOST; unit++) {
         memset(memory[unit], 0, SCRIPT_MEMORY * sizeof(uint16_t));
         memset(memory_of_second[unit], 0, SCRIPT_MEMORY * sizeof(uint16_t));
+    }
+    for (uint32_t unit = 0; answer == PCL_DONE && unit < l.units; unit++) {
+        put_serial(unit, PCL_TRANSMITTER, (uint16_t)(0xFFFF - unit));
+        put_serial(unit, PCL_RECEIVER, (uint16_t)(0x8000 + unit));
     }
     return answer;
 }

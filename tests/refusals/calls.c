@@ -18,11 +18,18 @@ static void all_answer(uint32_t number)
         REFUSED(pd(unit), number);
         REFUSED(rs(unit), number);
         REFUSED(lv(unit, side), number);
+        REFUSED(sn(unit, side), number);
         REFUSED(sl(1, bad ? 2 : 0), number == PCL_NOT_FITTED ? bad ? PCL_BAD_SETUP : PCL_NO_MASTER : number);
     }
 }
 
-/* What changes nothing, whatever a unit's cells hold: reads that only show, writes without effect, refusals. */
+/* The cell of a side's serial. */
+static size_t serial_at(uint32_t unit, uint32_t side)
+{
+    return block_at(unit) + (side == PCL_RECEIVER ? RECEIVER : TRANSMITTER) + SERIAL;
+}
+
+/* What changes nothing, whatever a unit's cells hold: reads that only show, serials, writes without effect, refusals. */
 static void leave_all(uint32_t u)
 {
     static const uint32_t shows[] = { PCL_TCR, PCL_TSR, PCL_TSBC, PCL_TSBA, PCL_TSCRC, PCL_RCR, PCL_RSR, PCL_RDBC, PCL_RDBA, PCL_RDCRC };
@@ -34,6 +41,7 @@ static void leave_all(uint32_t u)
         REFUSED(wr(u, ignores[i], 0xFFFF), 0);
     for (uint32_t half = 0; half < 2; half++) {
         REFUSED(pcl_number(lv(u, half)), 0);
+        REFUSED(sn(u, half), shown(cells[serial_at(u, half)]));
         REFUSED(wb(u, PCL_TSCRC + half, 0xFF), 0);
         REFUSED(wb(u, PCL_RDCRC + half, 0xFF), 0);
         REFUSED(wb(u, PCL_TSDB + half, 0xFF), PCL_BYTE_REFUSED);
@@ -159,6 +167,7 @@ static void units_not_fitted(uint32_t units)
         for (uint32_t side = 0; side < 4; side++) {
             REFUSED(mv(numbers[i], side), 1);
             REFUSED(lv(numbers[i], side), 1);
+            REFUSED(sn(numbers[i], side), 1);
         }
         REFUSED(pd(numbers[i]), 1);
         REFUSED(rs(numbers[i]), 1);
@@ -171,6 +180,7 @@ static void bad_places(uint32_t unit)
     for (size_t i = 2; i < NUMBERS; i++) {
         REFUSED(mv(unit, numbers[i]), 1);
         REFUSED(lv(unit, numbers[i]), 1);
+        REFUSED(sn(unit, numbers[i]), 1);
     }
     for (uint32_t offset = 0; offset < 600; offset++) {
         bool none = offset == 14 || offset == 15 || offset >= 28;
@@ -221,6 +231,46 @@ static void calls_refused(void)
     lend(PCL_CELLS(0));
     lend_memory(0);
     all_answer(PCL_NOT_FITTED);
+}
+
+/* Every side's own serial, whatever it is and the others are, in cells of exactly the room asked; it changes nothing. */
+static void serials_shown(void)
+{
+    static const uint16_t patterns[] = { 0, 1, 0xFF, 0x100, 0x7FFF, 0x8000, 0xFFFE, 0xFFFF };
+
+    for (uint32_t units = 1; units <= 16; units += units < 2 ? 1 : 7) {
+        state_of(units);
+        for (size_t p = 0; p < sizeof patterns / sizeof patterns[0]; p++) {
+            for (uint32_t place = 0; place < 2 * units; place++)
+                cells[serial_at(place / 2, place % 2)] = (uint16_t)(patterns[p] + 77 * place);
+            keep();
+            for (uint32_t place = 0; place < 2 * units; place++)
+                REFUSED(sn(place / 2, place % 2), shown((uint16_t)(patterns[p] + 77 * place)));
+        }
+    }
+}
+
+/* An INIT of either side, by a word and by a byte, a reset, and a fit that is refused keep the serials; a fit that is not gives 0. */
+static void serials_kept(void)
+{
+    state_of(2);
+    for (uint32_t place = 0; place < 4; place++)
+        cells[serial_at(place / 2, place % 2)] = (uint16_t)(0xFFF0 + place);
+    keep();
+    REFUSED(fit(good(2), PCL_SETUP(2) - 1), 7);
+    REFUSED(fit(good(3), PCL_SETUP(3)), 9);
+    for (uint32_t u = 0; u < 2; u++) {
+        IS(wr(u, PCL_TCR, PCL_TCR_TX_INIT), 0);
+        IS(wb(u, PCL_TCR, PCL_TCR_TX_INIT), 0);
+        IS(wr(u, PCL_RCR, PCL_RCR_RC_INIT), 0);
+        IS(wb(u, PCL_RCR, PCL_RCR_RC_INIT), 0);
+        IS(rs(u), 0);
+    }
+    for (uint32_t place = 0; place < 4; place++)
+        IS(sn(place / 2, place % 2), shown(0xFFF0 + place));
+    IS(fit(good(2), PCL_SETUP(2)), 0);
+    for (uint32_t place = 0; place < 4; place++)
+        IS(sn(place / 2, place % 2), shown(0));
 }
 
 /* 4: nothing to read, nothing to move. */
@@ -276,6 +326,8 @@ int main(void)
 {
     all_nines();
     calls_refused();
+    serials_shown();
+    serials_kept();
     nothing_there();
     partly_done();
     return finish("refusals, calls");

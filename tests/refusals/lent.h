@@ -107,6 +107,7 @@ static inline uint64_t mv(uint32_t u, uint32_t side) { return pcl_move(cells, le
 static inline uint32_t pd(uint32_t u) { return pcl_period(cells, length, u); }
 static inline uint32_t rs(uint32_t u) { return pcl_reset(cells, length, u); }
 static inline uint32_t lv(uint32_t u, uint32_t side) { return pcl_level(cells, length, u, side); }
+static inline uint32_t sn(uint32_t u, uint32_t side) { return pcl_serial(cells, length, u, side); }
 
 enum { MEMORY = 40 };
 /* A good set-up of n units. */

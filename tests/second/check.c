@@ -38,6 +38,7 @@ static uint32_t wb(uint32_t u, uint32_t o, uint32_t b) { return second_write_byt
 static uint32_t rd(uint32_t u, uint32_t o) { return second_read(&l, u, o) >> 16; }
 static uint32_t rn(uint32_t u, uint32_t o) { return no(second_read(&l, u, o)); }
 static uint32_t level(uint32_t u, uint32_t s) { return second_interrupt_level(&l, u, s) >> 16; }
+static uint32_t serial(uint32_t u, uint32_t s) { return second_serial(&l, u, s) >> 16; }
 static uint64_t mv(uint32_t u, uint32_t s) { return second_move(&l, u, s, memory[u], 131072); }
 
 /* The answer of a slice in the form of the document: address, A, B. */
@@ -133,6 +134,7 @@ static void set_ups(void)
     IS(second_period(&l, 0), 1);
     IS(second_reset(&l, 0), 1);
     IS(second_interrupt_level(&l, 0, 0), 1);
+    IS(second_serial(&l, 0, 0), 1);
     IS(second_slice(&l, 0, 0), 8);
     IS(second_slice(&l, 0, 2), 7);
     same(__LINE__);
@@ -182,6 +184,12 @@ static void refusals(void)
     IS(mv(0, 0), 4); IS(mv(0, 1), 4);
     IS(mv(0, 2), 1); IS(mv(0, 0xFFFFFFFF), 1);
     IS(second_interrupt_level(&l, 0, 2), 1); IS(second_interrupt_level(&l, 2, 0), 1);
+    for (uint32_t s = 0; s < 2; s++) {
+        IS(second_serial(&l, 2, s), 1); IS(second_serial(&l, 16, s), 1); IS(second_serial(&l, 0x10000, s), 1);
+        IS(second_serial(&l, 0xFFFFFFFF, s), 1); IS(second_serial(&l, s, 2), 1); IS(second_serial(&l, s, 3), 1);
+        IS(second_serial(&l, s, 0x10000), 1); IS(second_serial(&l, s, 0xFFFFFFFF), 1);
+    }
+    IS(second_serial(&l, 2, 2), 1); IS(second_serial(&l, 0, 0), 0); IS(second_serial(&l, 1, 1), 0);
     IS(second_period(&l, 2), 1); IS(second_reset(&l, 0x10000), 1);
     IS(second_move(&l, 0, 0, memory[0], 131071), 9);
     IS(second_move(&l, 0, 7, memory[0], 131071), 9);
@@ -920,6 +928,206 @@ static void restarts(void)
     opening_at_an_open_receiver(); no_opening_at_a_closed_receiver(); nothing_glued(); opening_elsewhere(); to_itself();
 }
 
+/* --------------------------------------------------- document 02, request 6 */
+
+/* T's serial, and that of 12; the other two sides of the units have opened nothing. */
+static void both_show(int line, uint32_t of_t, uint32_t of_r)
+{
+    is(line, "T's serial", second_serial(&l, 0, 0), (uint64_t)of_t << 16);
+    is(line, "R's serial", second_serial(&l, 1, 1), (uint64_t)of_r << 16);
+    is(line, "R's serial of T's unit", second_serial(&l, 0, 1), 0);
+    is(line, "T's serial of R's unit", second_serial(&l, 1, 0), 0);
+}
+
+/* "raises by one at each opening": not before, not with a word, a CRC or a success after it, and "kept after closing". */
+static void serial_of_a_message(void)
+{
+    plain(); both_show(__LINE__, 0, 0);
+    for (uint32_t i = 1; i <= 3; i++) {
+        sender(3, SND_WD | ST_TXM); wr(1, RCR, RCV_WD | RCV_DAT); both_show(__LINE__, i - 1, i - 1);
+        for (int k = 0; k < 3; k++) { IS(serve(1), sl(1, 2, 3)); both_show(__LINE__, i, i); rd(1, RDDB); }
+        IS(serve(1), sl(1, 3, 1)); both_show(__LINE__, i, i);
+        IS(serve(1), sl(1, 3, 3)); IS(rd(0, TSR) & rd(1, RSR) & SUC, SUC); both_show(__LINE__, i, i);
+        IS(serve(1), sl(1, 0, 0)); wr(0, TSR, 0); wr(1, RSR, 0); both_show(__LINE__, i, i);
+    }
+    /* due CRCs; a null cycle; one word after the other by SND WD, of which each sets SUC TXF on the one channel */
+    full_block(); wr(0, TSDB, 5); IS(serve(1), sl(1, 2, 1)); IS(serve(1), sl(1, 2, 3)); IS(serve(1), sl(1, 2, 3));
+    both_show(__LINE__, 1, 1);
+    plain(); sender(3, SND_WD); wr(1, RCR, RCV_WD); IS(serve(1), sl(1, 2, 3)); IS(serve(1), sl(1, 1, 1));
+    for (int k = 0; k < 2; k++) {
+        IS(rd(0, TSR) & SUC, SUC); wr(0, TSR, 0);
+        wr(0, TCR, (12 << 8) | SND_WD); wr(1, RCR, RCV_WD); IS(serve(1), sl(1, 2, 3)); both_show(__LINE__, 1, 1);
+    }
+}
+
+/* The ways in which a channel closes, or one end of it. */
+enum { BY_ERR_AT_T, BY_ERR_AT_R, BY_PARITY, BY_BAD_CRC, BY_REJECTION, BY_TRUNCATION, BY_TX_INIT, BY_RC_INIT, BY_INIT_BYTES, BY_RESET_OF_T,
+       BY_RESET_OF_R, BY_RESETS, CLOSINGS };
+
+/* The channel of two_words, on which T has sent what it had. */
+static void close_by(unsigned way)
+{
+    switch (way) {
+    case BY_ERR_AT_T: wr(0, TSR, TIM_OUT); IS(serve(1), sl(1, 0, 0)); break;
+    case BY_ERR_AT_R: wr(1, RSR, TIM_OUT); IS(serve(1), sl(1, 3, 0)); break;
+    case BY_PARITY: wr(0, TSDB, 3); IS(serve_damaged(1, 4, 0), sl(1, 2, 3)); IS(serve(1), sl(1, 3, 2)); break;
+    case BY_BAD_CRC: IS(serve_damaged(1, 4, 0), sl(1, 3, 1)); IS(serve(1), sl(1, 3, 2)); break;
+    case BY_REJECTION: wr(1, RCR, REJ); IS(serve(1), sl(1, 3, 1)); IS(rd(1, RSR) & RECOM, RECOM); break;
+    case BY_TRUNCATION:
+        wr(0, TSDB, 3); wr(1, RCR, REJ | RCV_DAT); IS(serve(1), sl(1, 2, 1)); IS(serve(1), sl(1, 3, 1));
+        IS(serve(1), sl(1, 3, 3)); IS(rd(1, RSR) & (RECOM | SUC), RECOM | SUC); break;
+    case BY_TX_INIT: wr(0, TCR, TX_INIT); break;
+    case BY_RC_INIT: wr(1, RCR, RC_INIT); IS(serve(1), sl(1, 3, 0)); break;
+    case BY_INIT_BYTES: wb(0, TCR, TX_INIT); wb(1, RCR, RC_INIT); break;
+    case BY_RESET_OF_T: second_reset(&l, 0); break;
+    case BY_RESET_OF_R: second_reset(&l, 1); IS(serve(1), sl(1, 3, 0)); break;
+    default: second_reset(&l, 0); second_reset(&l, 1); break;
+    }
+}
+
+/* "kept after closing. Only a new fit resets it": whatever closes the channel, and whatever the hosts do to a side that is closed. */
+static void serial_kept(void)
+{
+    for (unsigned way = 0; way < CLOSINGS; way++) {
+        mid_message(); both_show(__LINE__, 1, 1);
+        close_by(way); both_show(__LINE__, 1, 1);
+        wr(0, TCR, TX_INIT); wr(1, RCR, RC_INIT); both_show(__LINE__, 1, 1);
+        second_reset(&l, 0); second_reset(&l, 1); both_show(__LINE__, 1, 1);
+        wb(0, TMMR + 1, (MASTER | AUT_ADR) >> 8); two_words(); both_show(__LINE__, 2, 2);
+    }
+    /* writes of every register, reads, moves, periods and levels, with a channel open and without */
+    for (unsigned open = 0; open < 2; open++) {
+        mid_message();
+        if (!open)
+            close_by(BY_INIT_BYTES);
+        for (uint32_t u = 0; u < 2; u++)
+            for (uint32_t o = 0; o < 28; o++) {
+                wr(u, o, 0xFFFD); wb(u, o, o % 2 ? 0xFF : 0xFD); second_read(&l, u, o);
+                second_period(&l, u); mv(u, o % 2); level(u, o % 2); both_show(__LINE__, 1, 1);
+            }
+    }
+    /* a master that goes: MST DWN, and a takeover */
+    mid_message(); wr(0, TSDB, 3); wb(0, TMMR + 1, AUT_ADR >> 8); IS(second_slice(&l, 0, 0), 8); both_show(__LINE__, 1, 1);
+    wb(1, TMMR + 1, (SEC | AUT_ADR) >> 8); IS(second_slice(&l, 0, 0), 8); both_show(__LINE__, 1, 1);
+}
+
+/* An opening word that gets 00 opens nothing: the same serial goes with it again, until R takes it. */
+static void serial_not_raised(void)
+{
+    plain(); sender(1, SND_WD | RIB);
+    /* no RCV WD; an error, BC OFL too; no such receiver; T idle, for want of a destination, with ERR, for want of a word; no room */
+    for (int i = 0; i < 5; i++) { IS(serve(1), sl(1, 2, 0)); both_show(__LINE__, 0, 0); }
+    wr(1, RSR, PAR); wr(1, RCR, RCV_WD); IS(serve(1), sl(1, 2, 0)); both_show(__LINE__, 0, 0);
+    wr(1, RSR, BC_OFL); wr(1, RCR, RCV_WD); IS(serve(1), sl(1, 2, 0)); both_show(__LINE__, 0, 0); wr(1, RSR, 0);
+    wr(0, TCR, (31 << 8) | SND_WD | RIB); IS(serve(1), sl(1, 2, 0)); both_show(__LINE__, 0, 0);
+    wr(0, TCR, SND_WD); IS(serve(1), sl(1, 0, 0)); both_show(__LINE__, 0, 0);
+    wr(0, TCR, (12 << 8) | SND_WD); wr(0, TSR, TIM_OUT); IS(serve(1), sl(1, 0, 0)); both_show(__LINE__, 0, 0); wr(0, TSR, 0);
+    wr(0, TCR, (12 << 8) | SND_WD); wr(1, RCR, RCV_WD); IS(serve(1), sl(1, 2, 3)); both_show(__LINE__, 1, 1);
+    plain(); wr(0, TCR, (12 << 8) | SND_WD | ST_TXM); wr(1, RCR, RCV_WD | RCV_DAT); IS(serve(1), sl(1, 0, 0)); both_show(__LINE__, 0, 0);
+    for (int i = 0; i < 64; i++) { wr(0, TSDB, i); IS(serve(1), sl(1, 2, 3)); }
+    wr(0, TCR, TX_INIT); wb(0, TMMR + 1, (MASTER | AUT_ADR) >> 8); sender(1, SND_WD | RIB);
+    IS(serve(1), sl(1, 2, 0)); wr(1, RSR, 0); wr(1, RCR, RCV_WD); IS(rd(1, RCR) & 8, 0);    /* closed, and full */
+    IS(serve(1), sl(1, 2, 0)); both_show(__LINE__, 1, 1);
+    rd(1, RDDB); IS(serve(1), sl(1, 2, 3)); both_show(__LINE__, 2, 2);
+    /* at a receiver that is open with another */
+    fit_plain(3, 3, 131072); wb(2, TMMR + 1, 0x11); sender(1, SND_WD); wr(1, RCR, RCV_WD | RCV_DAT); IS(serve(1), sl(1, 2, 3));
+    wr(2, TSDB, 9); wr(2, TCR, (12 << 8) | SND_WD | RIB); IS(serve(3), sl(3, 2, 0)); IS(serial(2, 0), 0); both_show(__LINE__, 1, 1);
+}
+
+/* A restarted T at an R that is still open: R keeps the serial of the message that it had, and the next opening has the next one. */
+static void serial_of_a_restart(void)
+{
+    static const unsigned starts[] = { SND_WD, SND_WD | ST_TXM };
+
+    for (int i = 0; i < 2; i++) {
+        mid_message(); restart(1, starts[i]); both_show(__LINE__, 1, 1);
+        refused_opening(__LINE__, 0, 2); both_show(__LINE__, 1, 1);
+        wr(1, RSR, 0); wr(1, RCR, RCV_WD | RCV_DAT); wr(0, TCR, (12 << 8) | starts[i]); IS(serve(1), sl(1, 2, 3));
+        both_show(__LINE__, 2, 2);
+    }
+    mid_message(); wr(0, TSDB, 3); wr(1, RCR, RC_INIT); wr(1, RCR, RCV_WD | RCV_DAT); refused_going_on(__LINE__, 2);
+    both_show(__LINE__, 1, 1);
+    /* transmitter 1 opens to 13, and 12 still holds the channel of the message before */
+    fit_plain(3, 3, 131072); wb(2, TMMR + 1, 0x11); two_words(); wr(0, TCR, TX_INIT);
+    wr(2, RCR, RCV_WD | RCV_DAT); wr(0, TSDB, 7); wr(0, TCR, (13 << 8) | SND_WD | ST_TXM); IS(serve(1), sl(1, 2, 3));
+    both_show(__LINE__, 2, 1); IS(serial(2, 1), 2);
+    IS(serve(1), sl(1, 3, 1)); rd(2, RDDB); IS(serve(1), sl(1, 3, 3)); both_show(__LINE__, 2, 1); IS(serial(2, 1), 2);
+}
+
+/* "It is copied to the receiver": R has the serial of the T that opens it, which may be less than the one that it had. */
+static void serial_of_the_sender(void)
+{
+    fit_plain(3, 3, 131072); wb(1, TMMR + 1, 0x11);
+    for (uint32_t i = 1; i <= 5; i++) {
+        sender(1, SND_WD); wr(1, RCR, RCV_WD); IS(serve(1), sl(1, 2, 3)); IS(serial(0, 0), i); IS(serial(1, 1), i);
+        wr(0, TCR, TX_INIT); wr(1, RCR, RC_INIT);
+    }
+    for (uint32_t i = 1; i <= 2; i++) {
+        wr(2, TSDB, 9); wr(2, TCR, (12 << 8) | SND_WD); wr(1, RCR, RCV_WD); IS(serve(3), sl(3, 2, 3));
+        IS(serial(2, 0), i); IS(serial(1, 1), i); IS(serial(0, 0), 5);
+        wr(2, TCR, TX_INIT); wr(1, RCR, RC_INIT);
+    }
+    sender(1, SND_WD); wr(1, RCR, RCV_WD); IS(serve(1), sl(1, 2, 3)); IS(serial(0, 0), 6); IS(serial(1, 1), 6); IS(serial(2, 0), 2);
+    /* a unit that sends to itself: both of its sides have one serial, and it is theirs */
+    fit_plain(2, 2, 131072); wb(1, TMMR + 1, 0x11);
+    for (uint32_t i = 1; i <= 3; i++) {
+        wr(0, RCR, RCV_WD | RCV_DAT); wr(0, TSDB, 1); wr(0, TCR, (11 << 8) | SND_WD | ST_TXM); IS(serve(1), sl(1, 2, 3));
+        IS(serial(0, 0), i); IS(serial(0, 1), i);
+        IS(serve(1), sl(1, 3, 1)); rd(0, RDDB); IS(serve(1), sl(1, 3, 3)); IS(serial(0, 0), i); IS(serial(0, 1), i);
+        second_reset(&l, 0); IS(serial(0, 0), i); IS(serial(0, 1), i);
+    }
+    wr(0, RCR, RCV_WD | RCV_DAT); wr(0, TSDB, 1); wr(0, TCR, (11 << 8) | SND_WD | ST_TXM); IS(serve(1), sl(1, 2, 3));
+    wr(0, TCR, TX_INIT); wr(0, TSDB, 2); wr(0, TCR, (11 << 8) | SND_WD | ST_TXM); IS(serve(1), sl(1, 2, 0));
+    IS(serial(0, 0), 4); IS(serial(0, 1), 4); IS(serial(1, 0), 0); IS(serial(1, 1), 0);
+}
+
+/* "Only a new fit resets it, to 0": one that is answered 0, with as many units and with fewer. */
+static void serial_after_a_fit(void)
+{
+    static const uint32_t bad[][4] = { { 0, 11, 2, 1 }, { 1, 32, 2, 1 }, { 1, 11, 1, 1 }, { 1, 11, 2, 0 }, { 1, 11, 2, 131073 } };
+
+    mid_message(); close_by(BY_INIT_BYTES); wb(0, TMMR + 1, (MASTER | AUT_ADR) >> 8); two_words();
+    for (size_t i = 0; i < sizeof bad / sizeof bad[0]; i++) {
+        IS(second_fit(&l, bad[i], 4), 7); both_show(__LINE__, 2, 2);
+    }
+    IS(second_fit(&l, bad[0], 3), 7); IS(second_fit(&l, NULL, 0), 7); both_show(__LINE__, 2, 2);
+    plain(); both_show(__LINE__, 0, 0);
+    two_words(); both_show(__LINE__, 1, 1);
+    fit_plain(1, 2, 1); IS(second_serial(&l, 0, 0), 0); IS(second_serial(&l, 0, 1), 0); IS(second_serial(&l, 1, 1), 1);
+    fit_plain(16, 2, 1);
+    for (uint32_t u = 0; u < 16; u++) { IS(second_serial(&l, u, 0), 0); IS(second_serial(&l, u, 1), 0); }
+}
+
+/* "starting again at 0 after 65,535": 65,536 openings and four more, to 12 and 13 in turn, and between them an INIT or a reset at either
+ * end.  Whoever is not opened keeps its own.  Every mask over the sixteen data lines damages one of the opening slices, and no mask
+ * the serial that is copied. */
+static void serial_goes_round(void)
+{
+    uint32_t now = 0, at_receiver[3] = { 0 };
+
+    fit_plain(3, 3, 131072); wb(2, TMMR + 1, 0x11);
+    for (uint32_t i = 1; i <= 65540; i++) {
+        uint32_t r = 1 + i % 2;
+
+        wr(0, TSDB, i); wr(0, TCR, ((r + 11) << 8) | SND_WD); wr(r, RCR, RCV_WD);
+        IS(serve_damaged(1, (uint16_t)i, i >> 4 & 1), sl(1, 2, 3));
+        now = now == 65535 ? 0 : now + 1;
+        at_receiver[r] = now;
+        IS(serial(0, 0), now); IS(serial(1, 1), at_receiver[1]); IS(serial(2, 1), at_receiver[2]);
+        if (i % 4 < 2) { wr(0, TCR, TX_INIT); second_reset(&l, 1); wr(2, RCR, RC_INIT); }
+        else { second_reset(&l, 0); wr(1, RCR, RC_INIT); wr(2, RCR, RC_INIT); }
+        IS(serial(0, 0), now); IS(serial(1, 1), at_receiver[1]); IS(serial(2, 1), at_receiver[2]);
+        if (i == 65536) { IS(now, 0); IS(at_receiver[2], 65535); }
+    }
+    IS(now, 4); IS(serial(0, 1), 0); IS(serial(1, 0), 0); IS(serial(2, 0), 0);
+}
+
+static void serials(void)
+{
+    serial_of_a_message(); serial_kept(); serial_not_raised(); serial_of_a_restart(); serial_of_the_sender(); serial_after_a_fit();
+    serial_goes_round();
+}
+
 /* ---------------------------------------------------------------- demand 3 */
 
 struct message {
@@ -985,6 +1193,7 @@ static void message(const struct message *m)
     }
     IS(rd(m->from, TSR), SUC | DTIRDY); IS(rd(m->to, RSR), SUC);
     IS(rd(m->from, TCR) & (TX_NPR | SND_WD | ST_TXM | 8), 0);
+    IS(serial(m->from, 0), 1); IS(serial(m->to, 1), 1);     /* one opening since the fit */
     IS(memcmp(wanted, t, sizeof wanted) != 0, 0);
     if (!m->silo)
         IS(all, m->cycle * formula);
@@ -1010,7 +1219,7 @@ int main(void)
 {
     set_ups(); refusals(); register_bits(); data_silos(); master_section(); address_silo();
     single_words(); table(); damage(); rejection(); truncation(); periods(); requests();
-    moves(); missing(); blocks(); others(); restarts(); demand_3();
+    moves(); missing(); blocks(); others(); restarts(); serials(); demand_3();
     printf("check: %lu checks, %d failures\n", checks, failures);
     return failures != 0;
 }

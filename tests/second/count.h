@@ -54,6 +54,7 @@
     /* the transmitter on B */ \
     X(closed_00_rib_clear) X(closed_00_rib_set) X(closed_01) X(closed_10) \
     X(closed_11_opens) X(closed_11_opens_tbs_bsy_stood) \
+    X(serial_goes_round) X(serial_copied_over_another) \
     X(word_taken_st_txm) X(word_taken_suc_txf) X(crc_taken) \
     X(transmitter_bits_frozen) X(receiver_bits_frozen) \
     /* the master section */ \
@@ -70,6 +71,7 @@
     X(tsdb_taken) X(tsdb_full) X(tsdb_tx_npr) X(tsdb_rd_silo) X(tsdb_ending) \
     X(tsdb_read_stays) X(tsdb_read_removes) X(rddb_read_stays) X(rddb_read_removes) \
     X(tx_init) X(tx_init_open) X(tx_init_master) X(rc_init) X(rc_init_open) \
+    X(tx_init_keeps_serial) X(rc_init_keeps_serial) \
     X(reset_open_transmitter) X(reset_open_receiver) \
     X(write_requests_transmitter) X(write_requests_receiver) \
     X(write_sets_suc_txf) X(write_clears_nxl) X(write_second_error) \
@@ -90,7 +92,7 @@
 
 #define SECOND_CALLS(X) \
     X(fit) X(write) X(write_byte) X(read) X(slice) X(move) X(period) X(reset) \
-    X(interrupt_level)
+    X(interrupt_level) X(serial)
 
 #define SECOND_CALL_NAME(name) CALL_##name,
 enum second_call { SECOND_CALLS(SECOND_CALL_NAME) CALLS };

@@ -14,6 +14,7 @@ static struct second_link before;
 static uint16_t memory[16][131072];
 static unsigned long long calls;
 static unsigned long long opened[SECOND_UNITS][2];      /* the call in which each side last opened */
+static uint16_t serial_of[SECOND_UNITS][2];             /* what document 02's No. 6 has each side show */
 
 static void must(bool holds, const char *what)
 {
@@ -71,6 +72,14 @@ static void channel_holds(uint8_t address)
         return;
     must(opened[sends][PCL_TRANSMITTER] == opened[hears][PCL_RECEIVER], "two ends of a channel not opened in the same slice");
     must(r->words == t->side.words, "two ends of a channel are out of step");
+    must(r->serial == t->side.serial, "two ends of a channel have different serials");
+}
+
+static void serials_hold(void)
+{
+    for (uint32_t u = 0; u < l.units; u++)
+        for (uint32_t side = 0; side < 2; side++)
+            must(second_serial(&l, u, side) == (uint32_t)serial_of[u][side] << 16, "another serial than the openings have made");
 }
 
 static void everything_holds(void)
@@ -93,6 +102,7 @@ static void everything_holds(void)
     for (uint8_t address = 1; address < SECOND_ADDRESSES; address++)
         if (l.transmitter_at[address])
             channel_holds(address);
+    serials_hold();
 }
 
 static uint64_t tally(uint64_t answer)
@@ -110,11 +120,58 @@ static uint64_t tally(uint64_t answer)
     return answer;
 }
 
-static uint32_t call_fit(const uint32_t *setup, size_t length) { return (uint32_t)tally(second_fit(&l, setup, length)); }
+/* Document 02, of the serial: "Only a new fit resets it, to 0." */
+static uint32_t call_fit(const uint32_t *setup, size_t length)
+{
+    uint32_t answer = second_fit(&l, setup, length);
+
+    if (answer == PCL_DONE)
+        memset(serial_of, 0, sizeof serial_of);
+    return (uint32_t)tally(answer);
+}
+
 static uint32_t call_write(uint32_t u, uint32_t o, uint32_t w) { return (uint32_t)tally(second_write(&l, u, o, (uint16_t)w)); }
 static uint32_t call_write_byte(uint32_t u, uint32_t o, uint32_t b) { return (uint32_t)tally(second_write_byte(&l, u, o, (uint8_t)b)); }
 static uint32_t call_read(uint32_t u, uint32_t o) { return (uint32_t)tally(second_read(&l, u, o)); }
-static uint32_t call_slice(uint32_t data, uint32_t parity) { return (uint32_t)tally(second_slice(&l, (uint16_t)data, parity)); }
+
+/* One more at T, "starting again at 0 after 65,535", and the same at the R that it opens to. */
+static void raise_serials(uint32_t t, uint32_t r)
+{
+    uint16_t old = serial_of[t][PCL_TRANSMITTER];
+
+    serial_of[t][PCL_TRANSMITTER] = serial_of[r][PCL_RECEIVER] = old == 65535 ? 0 : old + 1;
+}
+
+/* Document 02: "both ends show the same one at success". */
+static void look_at_success(uint32_t t, uint32_t r)
+{
+    must(l.unit[t].transmitter.side.status & l.unit[r].receiver.side.status & PCL_TSR_SUC_TXF, "no success at both ends");
+    must(second_serial(&l, t, PCL_TRANSMITTER) == second_serial(&l, r, PCL_RECEIVER), "different serials at success");
+}
+
+/* A slice answered B 11, told by its codes and by what stood before it: to a T that was closed it is an opening, and to the last CRC a
+ * message's success. No other slice, and no other call, changes a serial: everything_holds looks at that. */
+static void look_at_taken(uint32_t answer)
+{
+    uint32_t t = before.transmitter_at[pcl_address(answer)] - 1u, r;
+    const struct second_transmitter *sends = &before.unit[t % SECOND_UNITS].transmitter;
+
+    r = before.receiver_at[sends->side.open ? sends->destination : sends->side.command >> 8 & 31] - 1u;
+    must(t < l.units && r < l.units, "11 from nobody, or to nobody");
+    if (!sends->side.open)
+        raise_serials(t, r);
+    if (pcl_a(answer) == 3)
+        look_at_success(t, r);
+}
+
+static uint32_t call_slice(uint32_t data, uint32_t parity)
+{
+    uint32_t answer = second_slice(&l, (uint16_t)data, parity);
+
+    if (pcl_number(answer) == PCL_DONE && pcl_b(answer) == 3)
+        look_at_taken(answer);
+    return (uint32_t)tally(answer);
+}
 
 /* A move's value is there exactly where it set NXL, and is the address that it tried. */
 static uint64_t call_move(uint32_t u, uint32_t side, size_t lent)
@@ -133,6 +190,23 @@ static uint64_t call_move(uint32_t u, uint32_t side, size_t lent)
 static uint32_t call_period(uint32_t u) { return (uint32_t)tally(second_period(&l, u)); }
 static uint32_t call_reset(uint32_t u) { return (uint32_t)tally(second_reset(&l, u)); }
 static uint32_t call_level(uint32_t u, uint32_t side) { return (uint32_t)tally(second_interrupt_level(&l, u, side)); }
+
+static uint32_t call_serial(uint32_t u, uint32_t side)
+{
+    uint32_t answer = second_serial(&l, u, side);
+
+    must(memcmp(&before, &l, sizeof l) == 0, "showing a serial changed the state");
+    return (uint32_t)tally(answer);
+}
+
+static void put_serial(uint32_t u, uint32_t side, uint16_t serial)
+{
+    struct second_unit *unit = &l.unit[u];
+
+    serial_of[u][side] = serial;
+    *(side == PCL_RECEIVER ? &unit->receiver.side.serial : &unit->transmitter.side.serial) = serial;
+    memcpy(&before, &l, sizeof l);
+}
 
 int main(int count, char **arguments)
 {

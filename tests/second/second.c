@@ -1,5 +1,5 @@
-/* second.c - the link of document 01 with document 02's changes No. 1 and No. 3,
- * written apart from the first program.
+/* second.c - the link of document 01 with document 02's changes No. 1, No. 3 and
+ * No. 6, written apart from the first program.
  *
  * Quoted sentences are document 01's, or where it says so document 02's; "reading
  * n" is one of docs/DECISIONS.md. */
@@ -88,11 +88,12 @@ enum {
 };
 
 /* What T puts on the lines, as it arrives at R (damage done).  Document 02: "An
- * opening word must be marked as such."  The mark is no line, so no damage
- * touches it. */
+ * opening word must be marked as such", and the serial "is copied to the receiver
+ * with the opening word".  Neither is a line, so no damage touches them. */
 struct sent {
     uint8_t a;
     bool opening;               /* the word of a T that is not open */
+    uint16_t serial;            /* with it: the serial that the opening would have */
     bool crc;                   /* T meant a CRC; else a word, or nothing */
     bool parity;
     uint16_t data;
@@ -320,29 +321,33 @@ static void give_up_mastership(struct second_link *l, uint32_t unit)
 
 /* "TX INIT .. gives that side its initial state, closing only its own side of a
  * channel"; it "also clears MASTER, SEC, NOW MST, empties the address silo and
- * sets AUT ADR". */
+ * sets AUT ADR".  The serial is kept: see fit. */
 static void initialize_transmitter(struct second_link *l, uint32_t unit)
 {
     struct second_unit *u = &l->unit[unit];
+    uint16_t serial = u->transmitter.side.serial;
 
     COUNT(tx_init);
     COUNT_IF(u->transmitter.side.open, tx_init_open);
     COUNT_IF(l->master == unit + 1, tx_init_master);
-    u->transmitter = (struct second_transmitter){ 0 };
+    COUNT_IF(serial, tx_init_keeps_serial);
+    u->transmitter = (struct second_transmitter){ .side = { .serial = serial } };
     give_up_mastership(l, unit);
     u->master.secondary = false;
     u->master.now_master = false;
     clear_addresses(&u->master);
 }
 
-/* RC INIT alike: the whole side is initial (reading 10). */
+/* RC INIT alike: the whole side is initial (reading 10), but for the serial. */
 static void initialize_receiver(struct second_link *l, uint32_t unit)
 {
     struct second_unit *u = &l->unit[unit];
+    uint16_t serial = u->receiver.side.serial;
 
     COUNT(rc_init);
     COUNT_IF(u->receiver.side.open, rc_init_open);
-    u->receiver = (struct second_receiver){ 0 };
+    COUNT_IF(serial, rc_init_keeps_serial);
+    u->receiver = (struct second_receiver){ .side = { .serial = serial } };
 }
 
 /* -------------------------------------------------------------------- fit */
@@ -373,7 +378,8 @@ static bool rules_kept(const uint32_t *setup, size_t length)
     return true;
 }
 
-/* "Fit gives every side its initial state, memories unchanged." */
+/* "Fit gives every side its initial state, memories unchanged."  Document 02, of
+ * the serial: "Only a new fit resets it, to 0." */
 static uint32_t fit(struct second_link *l, const uint32_t *setup, size_t length)
 {
     if (!rules_kept(setup, length))
@@ -893,6 +899,13 @@ static struct sent send_word(const struct second_transmitter *t)
     return (struct sent){ .a = WORD, .data = oldest(&t->side.silo) };
 }
 
+/* Document 02: "a 16-bit serial that the transmitter side raises by one at each
+ * opening, starting again at 0 after 65,535". */
+static uint16_t next_serial(const struct second_transmitter *t)
+{
+    return (uint16_t)(t->side.serial + 1);
+}
+
 /* "not open, 10 with a word", marked as an opening word; nothing else is. */
 static struct sent send_opening_word(const struct second_transmitter *t)
 {
@@ -900,6 +913,7 @@ static struct sent send_opening_word(const struct second_transmitter *t)
 
     COUNT(a_not_open);
     s.opening = true;
+    s.serial = next_serial(t);
     return s;
 }
 
@@ -1118,10 +1132,13 @@ static void store(struct second_receiver *r, const struct sent *s)
 }
 
 /* "At opening each end starts CRC, count of 128 and verdict, parity and
- * truncation marks afresh"; RCR 8 to 12 hold the opening's sender address. */
-static void open_receiver(struct second_receiver *r, uint8_t sender)
+ * truncation marks afresh"; RCR 8 to 12 hold the opening's sender address.  The
+ * serial is the one that came, whatever R's own was. */
+static void open_receiver(struct second_receiver *r, uint8_t sender, uint16_t serial)
 {
+    COUNT_IF((uint16_t)(r->side.serial + 1) != serial, serial_copied_over_another);
     r->side.open = true;
+    r->side.serial = serial;
     r->side.command = merge(r->side.command, (uint16_t)(sender << SENDER_SHIFT), SENDER);
     r->side.crc = 0;
     r->side.words = 0;
@@ -1143,7 +1160,7 @@ static bool may_open(const struct second_receiver *r, const struct sent *s)
 static struct reply open_and_store(struct second_receiver *r, uint8_t sender,
                                    const struct sent *s)
 {
-    open_receiver(r, sender);
+    open_receiver(r, sender, s->serial);
     store(r, s);
     COUNT_IF(r->bad_parity, parity_bad_at_opening);
     return answer_b(TAKEN);
@@ -1378,12 +1395,15 @@ static void acknowledged(struct second_transmitter *t, const struct sent *s,
 }
 
 /* "11 to a word .. opens a closed T"; "The destination is latched at opening";
- * "Opening clears TBS BSY"; CRC, count and marks start afresh. */
+ * "Opening clears TBS BSY"; the serial is raised; CRC, count and marks start
+ * afresh. */
 static void open_transmitter(struct second_transmitter *t)
 {
     COUNT_IF(t->side.status & TDM_BUSY, closed_11_opens_tbs_bsy_stood);
+    COUNT_IF(next_serial(t) == 0, serial_goes_round);
     t->destination = destination(t);
     t->side.open = true;
+    t->side.serial = next_serial(t);
     t->side.status &= (uint16_t)~TDM_BUSY;
     t->ending = false;
     t->crc_unanswered = false;
@@ -1798,6 +1818,16 @@ static uint32_t interrupt_level(const struct second_link *l, uint32_t unit, uint
                      : transmitter_level(&l->unit[unit].transmitter.side));
 }
 
+/* Serial (unit, side).  Document 02: "A call with unit and side shows it."; its
+ * refusals are "as number 1". */
+static uint32_t serial(const struct second_link *l, uint32_t unit, uint32_t side)
+{
+    if (!fitted(l, unit) || side > 1)
+        return 1;
+    return done(side ? l->unit[unit].receiver.side.serial
+                     : l->unit[unit].transmitter.side.serial);
+}
+
 /* -------------------------------------------------------------- the calls */
 
 /* Every answer of every call passes here, to be counted by its number. */
@@ -1854,6 +1884,11 @@ uint32_t second_reset(struct second_link *l, uint32_t unit)
 uint32_t second_interrupt_level(struct second_link *l, uint32_t unit, uint32_t side)
 {
     return answered(CALL_interrupt_level, interrupt_level(l, unit, side));
+}
+
+uint32_t second_serial(const struct second_link *l, uint32_t unit, uint32_t side)
+{
+    return answered(CALL_serial, serial(l, unit, side));
 }
 
 /* --------------------------------------------------- the table of SECOND_COUNT */

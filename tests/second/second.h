@@ -1,12 +1,12 @@
 /* second.h - a second implementation of the link of document 01 (PCL11-B), with
- * document 02's requests No. 1 and No. 3.
+ * document 02's requests No. 1, No. 3 and No. 6.
  *
  * The caller owns one `struct second_link`; zeroed memory is the unfitted
  * state.  Every call answers one number: number + 65536 * value.  The value is
  * the word of a read answered 0, the 0 or 1 of an interrupt level answered 0,
- * for a slice answered 0: address + 32 * A + 128 * B, and for a move that set
- * NXL the byte address it tried.  Else it is 0.  A byte address has 18 bits, so
- * that a move answers 64. */
+ * the serial of a serial call answered 0, for a slice answered 0: address + 32 * A
+ * + 128 * B, and for a move that set NXL the byte address it tried.  Else it is 0.
+ * A byte address has 18 bits, so that a move answers 64. */
 #ifndef SECOND_H
 #define SECOND_H
 
@@ -43,6 +43,7 @@ struct second_side {
     uint16_t byte_count;        /* TSBC or RDBC: minus the bytes left */
     uint16_t bus_address;       /* TSBA or RDBA: bits 0 to 15 of the address */
     uint16_t crc;               /* TSCRC or RDCRC */
+    uint16_t serial;            /* of the last message opened here, any value */
     uint8_t words;              /* words since the last CRC: 0 to 128 */
     bool loaded;                /* the byte count stands loaded */
     bool open;                  /* CHN OPN of this side */
@@ -101,6 +102,7 @@ uint64_t second_move(struct second_link *l, uint32_t unit, uint32_t side,
 uint32_t second_period(struct second_link *l, uint32_t unit);
 uint32_t second_reset(struct second_link *l, uint32_t unit);
 uint32_t second_interrupt_level(struct second_link *l, uint32_t unit, uint32_t side);
+uint32_t second_serial(const struct second_link *l, uint32_t unit, uint32_t side);
 
 #ifdef SECOND_COUNT
 /* Prints "name count" for every counter to stderr; fit for atexit. */

@@ -32,12 +32,13 @@ static void meanwhile(unsigned master)
     uint16_t word = any_word();
     if (unit == master && (offset == PCL_TMMR || offset == PCL_TCR))
         word &= (uint16_t)~PCL_TCR_TX_INIT, offset = PCL_TCR;
-    switch (below(6)) {
+    switch (below(7)) {
     case 0: pcl_write(cells, PCL_CELLS(UNITS), unit, offset, word); break;
     case 1: pcl_read(cells, PCL_CELLS(UNITS), unit, 2 * below(14)); break;
     case 2: pcl_move(cells, PCL_CELLS(UNITS), memory, 64, unit, side); break;
     case 3: pcl_period(cells, PCL_CELLS(UNITS), unit); break;
     case 4: pcl_level(cells, PCL_CELLS(UNITS), unit, side); break;
+    case 5: pcl_serial(cells, PCL_CELLS(UNITS), unit, side); break;
     default: if (unit != master) pcl_reset(cells, PCL_CELLS(UNITS), unit);
     }
 }

@@ -27,13 +27,14 @@ use Rattle.accesses.specs.Offsets.{TCR, TMMR, TMMR-HIGH, RCR}
 abbrev pub sectionReset : List ℕ → ℕ → List ℕ
 sectionReset cells unit = putHolder (putMaster cells unit (MS.initialised (masterOf cells unit))) (released (holderIn cells) unit)
 
--- "TX INIT .. gives that side its initial state, closing only its own side of a channel" (reading 10: the whole side)
+-- "TX INIT .. gives that side its initial state, closing only its own side of a channel" (reading 10: the whole side), but for the serial,
+-- which "Only a new fit resets" (document 02, No. 6)
 abbrev pub transmitterReset : List ℕ → ℕ → List ℕ
-transmitterReset cells unit = putTransmitter (sectionReset cells unit) unit TS.initial
+transmitterReset cells unit = putTransmitter (sectionReset cells unit) unit (TS.initialised (transmitterOf cells unit))
 
 -- "Reset does both sides."
 abbrev pub unitReset : List ℕ → ℕ → List ℕ
-unitReset cells unit = putReceiver (transmitterReset cells unit) unit RS.initial
+unitReset cells unit = putReceiver (transmitterReset cells unit) unit (RS.initialised (receiverOf cells unit))
 
 -- ---- the answer, and the cells with the side put back
 

@@ -19,14 +19,15 @@ ghost use Prim.Native.Nat.{ℕ};
 ghost use Rattle.cells.specs.Fitted.{Fitted};
 ghost use Rattle.accesses.specs.Writing.{transmitterReset, unitReset, transmitterWritten, receiverWritten, unitWritten, transmitterByteWritten, receiverByteWritten, unitByteWritten};
 
-// ---- TX INIT and reset
+// ---- TX INIT and reset: a side as it starts, but for its serial, which stays
 
 fn reset_transmitter(cells: &mut [u16], unit: usize) -> Write
     requires { ⌜ Fitted (now cells) unit ⌝ }
     ensures { λ r. ⌜ _≡_ {A = Write × List ℕ} (r, now (cells .exit)) (Write.Done, transmitterReset (now (cells .entry)) unit) ⌝ }
 {
+    let before = transmitter_of(cells, unit);
     reset_section(cells, unit);
-    put_transmitter(cells, unit, transmitter::side::start());
+    put_transmitter(cells, unit, transmitter::side::start(before.end.serial));
     Write::Done
 }
 
@@ -34,8 +35,9 @@ pub fn reset_unit(cells: &mut [u16], unit: usize)
     requires { ⌜ Fitted (now cells) unit ⌝ }
     ensures { λ _. ⌜ now (cells .exit) ≡ unitReset (now (cells .entry)) unit ⌝ }
 {
+    let before = receiver_of(cells, unit);
     reset_transmitter(cells, unit);
-    put_receiver(cells, unit, receiver::side::start());
+    put_receiver(cells, unit, receiver::side::start(before.end.serial));
 }
 
 // ---- a word

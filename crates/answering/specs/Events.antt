@@ -61,9 +61,9 @@ abbrev pub wordStored : Receiver → Sent → Receiver
 wordStored r sent = pick (r .commands .receiveData) (wordKept r sent) (requested (wordKept r sent))
 
 -- "At opening each end starts CRC, count of 128 and verdict, parity and truncation marks afresh"; RCR bits "8 to 12 the last opening's
--- sender address"
-abbrev pub opening : Receiver → ℕ → Receiver
-opening r from = withChannel (withModes (withEnd r (E.opening (r .end))) (withSender (r .modes) from)) noChannel
+-- sender address"; the serial is "copied to the receiver with the opening word" (document 02, No. 6)
+abbrev pub opening : Receiver → ℕ → ℕ → Receiver
+opening r from serial = withChannel (withModes (withEnd r (E.opening (r .end) serial)) (withSender (r .modes) from)) noChannel
 
 -- a CRC is taken: "a verdict is on the CRC as first taken" (reading 25; docs/DECISIONS.md, "A verdict is an equality"), "a CRC's parity
 -- isn't checked" (reading 22), and R's own CRC and count stay (reading 23)

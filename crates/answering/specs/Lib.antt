@@ -1,4 +1,5 @@
 pub mod Choice
 pub mod Events
 pub mod Rules
+pub mod Serials
 pub mod laws

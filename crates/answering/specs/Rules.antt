@@ -19,9 +19,9 @@ answering b r = record { side = r; answer = answered b }
 abbrev pub untouched : Receiver → Answered
 untouched r = answering 0 r
 
--- Rule 2: "Closed: .. RCV WD, no ERR, room: opens, stores, 11." For an opening word alone (document 02, No. 1).
+-- Rule 2: "Closed: .. RCV WD, no ERR, room: opens, stores, 11." For an opening word alone (document 02, No. 1), with its serial (No. 6).
 abbrev pub opens : Receiver → ℕ → Sent → Answered
-opens r from sent = answering 3 (wordStored (opening (showing r (sent .code) 3) from) sent)
+opens r from sent = answering 3 (wordStored (opening (showing r (sent .code) 3) from (sent .serial)) sent)
 
 -- Rule 3: "An error bit other than BC OFL: closes, 00."
 abbrev pub faulted : Receiver → Sent → Answered

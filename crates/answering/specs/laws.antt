@@ -1,4 +1,5 @@
 pub mod Hears
 pub mod Keeps
 pub mod Listening
+pub mod Openings
 pub mod Parts

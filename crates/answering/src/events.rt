@@ -109,9 +109,9 @@ pub fn store_word(r: Receiver, sent: Sent) -> Receiver
     request(next)
 }
 
-// The channel opens with the transmitter `from`, everything afresh.
-pub fn open_channel(r: Receiver, from: u16) -> Receiver
-    ensures { λ x. ⌜ x ≡ opening r from ⌝ }
+// The channel opens with the transmitter `from`, everything afresh, with the serial that came with the opening word.
+pub fn open_channel(r: Receiver, from: u16, serial: u16) -> Receiver
+    ensures { λ x. ⌜ x ≡ opening r from serial ⌝ }
 {
     let channel = Channel {
         owed: false,
@@ -125,6 +125,7 @@ pub fn open_channel(r: Receiver, from: u16) -> Receiver
     next.end.opened = true;
     next.end.block = 0;
     next.end.crc = 0;
+    next.end.serial = serial;
     next
 }
 

@@ -84,7 +84,7 @@ fn act(was: Receiver, r: Receiver, from: u16, sent: Sent, rule: Rule) -> Receive
     match rule {
         Rule::Other => was,
         Rule::Reopened => close(fail_transmission(r)),
-        Rule::Opens => store_word(open_channel(r, from), sent),
+        Rule::Opens => store_word(open_channel(r, from, sent.serial), sent),
         Rule::Refuses => was,
         Rule::Faulted => close(r),
         Rule::BadParity => close(fail_parity(r)),

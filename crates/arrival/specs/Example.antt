@@ -1,6 +1,6 @@
 -- A unit sends three readings to itself, set up by calls from cells that hold nothing: 7, none, and 0. The prover computes the run: before
--- the slice receiving answers "message not complete", and then it gives them. The words are put into the memory by the host's writes; every
--- other word of it is 9, so that the 0 is one that was sent.
+-- the slice receiving answers "message not complete", and then it gives them, with the serial 1, that of the first opening since the fit.
+-- The words are put into the memory by the host's writes; every other word of it is 9, so that the 0 is one that was sent.
 -- Assumes nothing.
 use mathlib.Core.List.{List, [], _∷_, _++_, map}
 use mathlib.Core.Path.{_≡_, refl, ap, sym, _∙_}
@@ -38,7 +38,7 @@ abbrev words : List ℕ
 words = 6 ∷ 1 ∷ 3 ∷ 7 ∷ 65535 ∷ 0 ∷ []
 
 abbrev blank : World
-blank = record { cells = replicate 216 0; memory = λ k. replicate 80 9 }
+blank = record { cells = replicate 218 0; memory = λ k. replicate 80 9 }
 
 -- one unit, its addresses 1 and 1, its switch 2, with 80 words of memory; the words from word 1 on; MASTER and AUT ADR; a load of six words
 -- from word 1 on, ST TXM, SND WD and TX NPR to receiver 1; one of them is moved; a load of six words to word 70, RCV DAT, RCV WD and
@@ -68,9 +68,9 @@ start =
     record {
       cells =
           (1 ∷ 1 ∷ 0 ∷ 0 ∷ 0 ∷ 79 ∷ [])
-          ++ (1 ∷ 0 ∷ 0 ∷ 2 ∷ 32763 ∷ 24835 ∷ 0 ∷ 0 ∷ 6 ∷ [])
+          ++ (1 ∷ 0 ∷ 0 ∷ 2 ∷ 32763 ∷ 24835 ∷ 0 ∷ 0 ∷ 0 ∷ 6 ∷ [])
           ++ replicate 63 0
-          ++ (0 ∷ 0 ∷ 0 ∷ 70 ∷ 32762 ∷ 24579 ∷ 0 ∷ 0 ∷ [])
+          ++ (0 ∷ 0 ∷ 0 ∷ 70 ∷ 32762 ∷ 24579 ∷ 0 ∷ 0 ∷ 0 ∷ [])
           ++ replicate 64 0
           ++ (0 ∷ 1089 ∷ [])
           ++ replicate 64 0;
@@ -221,15 +221,15 @@ abbrev received : ℕ → ReceiveCall × List ℕ
 received k = let r = receiving start (after start (events k)) (replicate 64 9) in (r .0, r .2)
 
 -- before the opening, and after each slice before the seventh
-not-opened : receiving start start (replicate 64 9) ≡ (ReceiveCall.Message Read.NotComplete, start .cells, replicate 64 9)
+not-opened : receiving start start (replicate 64 9) ≡ (ReceiveCall.Message Read.NotComplete 0, start .cells, replicate 64 9)
 unfolding firstOf inRange ones
 not-opened = refl
 
-not-complete : map received before ≡ replicate 7 (ReceiveCall.Message Read.NotComplete, replicate 64 9)
+not-complete : map received before ≡ replicate 7 (ReceiveCall.Message Read.NotComplete 1, replicate 64 9)
 unfolding firstOf inRange ones crcWord crcBits
 not-complete = refl
 
-given : received 7 ≡ (ReceiveCall.Message (Read.Readings (record { count = 3 })), 7 ∷ 65536 ∷ 0 ∷ replicate 61 9)
+given : received 7 ≡ (ReceiveCall.Message (Read.Readings (record { count = 3 })) 1, 7 ∷ 65536 ∷ 0 ∷ replicate 61 9)
 unfolding firstOf inRange ones crcWord crcBits
 given = refl
 

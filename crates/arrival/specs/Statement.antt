@@ -1,11 +1,12 @@
 -- Document 02, No. 2, from end to end: readings that were built and are sent under the conditions of demand 3, and what the host of R gets
--- of them by receiving, at each place of the run, in Rattle and in C.
+-- of them by receiving, at each place of the run, in Rattle and in C. No. 6: they come with the serial of the opening, so that the host can
+-- tell this message from the last.
 -- Under those conditions both ends have moved until 4 before each of T's slices: a host that is slower lies outside. Of it, and of whatever
 -- else the cells may hold, board.specs.Received says when receiving gives readings, and when it answers "message not complete".
 -- Assumes nothing.
 use mathlib.Core.List.{List, map}
 use mathlib.Core.Path.{_≡_}
-use Prim.Native.Nat.{ℕ, _*_, _≤_, _<_}
+use Prim.Native.Nat.{ℕ, _+_, _*_, _≤_, _<_}
 use lib.ListN.{length, getD, take}
 use Rattle.board.specs.Numbers.{receiveFace}
 use Rattle.board.specs.Receive.{receiveCall}
@@ -43,17 +44,21 @@ module _ (start : World) where
   abbrev pub receiving : World → List ℕ → ReceiveCall × List ℕ × List ℕ
   receiving w room = receiveCall 1 (w .cells) (w .memory receiver) receiver first room
 
-  -- "message not complete": nothing is given, and all stays as it was
-  abbrev pub NotComplete : World → Type 0
-  NotComplete w = (room : List ℕ) → 64 ≤ length room → receiving w room ≡ (ReceiveCall.Message Read.NotComplete, w .cells, room)
+  -- document 02, No. 6: the serial of the opening, T's before it raised by one
+  abbrev pub serial : ℕ
+  serial = message start .serial
 
-  -- the readings: so many as were handed in, each as C gets it, and the rest of the room as it was
+  -- "message not complete", and the serial that the receiver shows beside it: nothing is given, and all stays as it was
+  abbrev pub NotComplete : ℕ → World → Type 0
+  NotComplete shown w = (room : List ℕ) → 64 ≤ length room → receiving w room ≡ (ReceiveCall.Message Read.NotComplete shown, w .cells, room)
+
+  -- the readings, with the serial: so many as were handed in, each as C gets it, and the rest of the room as it was
   abbrev pub Given : List ℕ → World → Type 0
   Given numbers w =
       (room : List ℕ) → 64 ≤ length room
-      → receiving w room ≡ (ReceiveCall.Message (Read.Readings (record { count = length numbers })), w .cells, over (map numberOf (lent numbers)) room)
+      → receiving w room ≡ (ReceiveCall.Message (Read.Readings (record { count = length numbers })) serial, w .cells, over (map numberOf (lent numbers)) room)
 
-  -- the same as C gets it: 1, "message not complete"; and 0 with the count of readings 65,536 times over it
+  -- the same as C gets it: 1, "message not complete"; and 0 with 65,536 times over it the count of readings, and over that the serial
   abbrev pub receivingForC : World → List ℕ → ℕ × List ℕ × List ℕ
   receivingForC w room = receiveFace 1 (w .cells) (w .memory receiver) receiver first room
 
@@ -62,7 +67,7 @@ module _ (start : World) where
 
   abbrev pub GivenForC : List ℕ → World → Type 0
   GivenForC numbers w =
-      (room : List ℕ) → 64 ≤ length room → receivingForC w room ≡ (length numbers * 65536, w .cells, over (map numberOf (lent numbers)) room)
+      (room : List ℕ) → 64 ≤ length room → receivingForC w room ≡ ((length numbers + serial * 65536) * 65536, w .cells, over (map numberOf (lent numbers)) room)
 
   -- on exactly the slice of the formula and ever after, and not before; and within L times as many slices
   pub record OnSlice (Before From : World → Type 0) (words : ℕ) (es : List Event) : Type 0 where
@@ -71,7 +76,7 @@ module _ (start : World) where
     pub inTime : round start * slicesOf words ≤ allSlices start es → From (after start es)
 
   abbrev pub Arrival : List ℕ → ℕ → List Event → Type 0
-  Arrival numbers words es = OnSlice NotComplete (Given numbers) words es
+  Arrival numbers words es = OnSlice (NotComplete serial) (Given numbers) words es
 
   abbrev pub ArrivalForC : List ℕ → ℕ → List Event → Type 0
   ArrivalForC numbers words es = OnSlice NotCompleteForC (GivenForC numbers) words es
@@ -79,8 +84,9 @@ module _ (start : World) where
   -- ---- "given as a value or as absent, never as 0 for want of one"
 
   -- wherever receiving gives readings, they are those that were handed in: a value is given as that value, and none as none; so a zero that
-  -- is given is a zero that was handed in
-  pub record Faithful (numbers : List ℕ) (w : World) (room : List ℕ) (view : View) : Type 0 where
+  -- is given is a zero that was handed in. And the serial that comes with them is this message's
+  pub record Faithful (numbers : List ℕ) (w : World) (room : List ℕ) (view : View) (shown : ℕ) : Type 0 where
     pub counted : view .count ≡ length numbers
+    pub numbered : shown ≡ serial
     pub same : (i : ℕ) → i < view .count → getD (receiving w room .2) i 0 ≡ numberOf (lentReading (getD numbers i 0))
     pub noZero : (i : ℕ) → i < view .count → getD (receiving w room .2) i 0 ≡ 0 → getD numbers i 0 ≡ 0

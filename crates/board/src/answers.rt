@@ -1,11 +1,12 @@
 // What the calls answer.
 use readings::answers::Read;
 
-// What came of receiving from the link itself: the room is too small, the link refused a read, by its own name, or what the message is.
+// What came of receiving from the link itself: the room is too small, the link refused a call, by its own name, or what the message is,
+// with the serial that the receiver shows, that of its last opening.
 pub enum ReceiveCall {
     NoRoom,
     Link(pcl::answers::ReadCall),
-    Message(Read),
+    Message(Read, u16),
 }
 
 // What came of collecting a unit's received words: the link refused a move, by its own name; an address outside the memory stopped it,

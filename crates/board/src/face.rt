@@ -11,7 +11,7 @@ use readings::reading::count_of;
 use readings::reading::read_numbers;
 ghost use mathlib.Core.Path.{_≡_};
 ghost use Rattle.board.specs.Contracts.{ReadFaceOutcome, BuildFaceOutcome, ReceiveFaceOutcome, CollectFaceOutcome};
-ghost use Rattle.board.specs.Numbers.{receivePacked, collectPacked};
+ghost use Rattle.board.specs.Numbers.{receivedPacked, receivePacked, collectPacked};
 ghost use Rattle.pcl.specs.Numbers.{readCallNumber, moveCallNumber};
 ghost use Rattle.readings.specs.Numbers.{readNumber, readCallPacked, builtNumber, builtPacked};
 ghost use Rattle.words.specs.Answers as Words;
@@ -61,13 +61,23 @@ fn number_refused(refusal: pcl::answers::ReadCall) -> u32
     }
 }
 
-fn pack_receive(call: ReceiveCall) -> u32
+// A count and a serial take 16 bits each.
+fn pack_received(read: Read, serial: u16) -> u64
+    ensures { λ r. ⌜ r ≡ receivedPacked read serial ⌝ }
+{
+    let Read::Readings(view) = read else {
+        return number_read(read) as u64;
+    };
+    (count_of(view) as u64 + serial as u64 * 65536) * 65536
+}
+
+fn pack_receive(call: ReceiveCall) -> u64
     ensures { λ r. ⌜ r ≡ receivePacked call ⌝ }
 {
     match call {
         ReceiveCall::NoRoom => 9,
-        ReceiveCall::Link(refusal) => number_refused(refusal) + 16,
-        ReceiveCall::Message(read) => pack_read(ReadCall::Message(read)),
+        ReceiveCall::Link(refusal) => number_refused(refusal) as u64 + 16,
+        ReceiveCall::Message(read, serial) => pack_received(read, serial),
     }
 }
 
@@ -146,7 +156,7 @@ pub extern "C" fn board_receive(
     unit: u32,
     first: u32,
     readings: &mut [u32],
-) -> u32
+) -> u64
     ensures { λ r. ⌜ ReceiveFaceOutcome kind (now (cells .entry)) (now (memory .entry)) unit first (now (readings .entry)) (r, now (cells .exit), now (readings .exit)) ⌝ }
 {
     pack_receive(receive(kind, cells, memory, unit, first, readings))

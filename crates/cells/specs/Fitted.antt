@@ -15,7 +15,7 @@ use Rattle.cells.specs.Layout.{unitPlace, transmitterPlace, receiverPlac
 -- its block is there
 pub record Fitted (cells : List ℕ) (unit : ℕ) : Type 0 where
   pub number : unit < 16
-  pub room : unitPlace unit + 214 ≤ length cells
+  pub room : unitPlace unit + 216 ≤ length cells
 
 -- ---- its sides
 

@@ -1,4 +1,4 @@
--- Where everything lies in the lent cells: a header of 2 cells, and a block of 214 for each fitted unit. docs/STATE.md has the table.
+-- Where everything lies in the lent cells: a header of 2 cells, and a block of 216 for each fitted unit. docs/STATE.md has the table.
 -- Assumes nothing.
 use mathlib.Core.List.{List, [], _∷_}
 use Prim.Native.Nat.{ℕ, _+_, _-_, _*_, _/_, _%_, _^_, min}
@@ -26,19 +26,19 @@ holderIn cells = cell cells HOLDER
 abbrev pub putHolder : List ℕ → ℕ → List ℕ
 putHolder cells holder = set cells HOLDER holder
 
--- ---- a unit's block: 4 cells of its own, 72 of its transmitter, 72 of its receiver, 66 of its master section
+-- ---- a unit's block: 4 cells of its own, 73 of its transmitter, 73 of its receiver, 66 of its master section
 
 abbrev pub unitPlace : ℕ → ℕ
-unitPlace u = 2 + u * 214
+unitPlace u = 2 + u * 216
 
 abbrev pub transmitterPlace : ℕ → ℕ
 transmitterPlace u = unitPlace u + 4
 
 abbrev pub receiverPlace : ℕ → ℕ
-receiverPlace u = unitPlace u + 76
+receiverPlace u = unitPlace u + 77
 
 abbrev pub masterPlace : ℕ → ℕ
-masterPlace u = unitPlace u + 148
+masterPlace u = unitPlace u + 150
 
 -- ---- a unit's own cells
 

@@ -1,4 +1,4 @@
-// Where everything lies in the lent cells: a header of 2 cells, and a block of 214 for each fitted unit.
+// Where everything lies in the lent cells: a header of 2 cells, and a block of 216 for each fitted unit.
 
 // The most units that a link has.
 pub const UNITS: usize = 16;
@@ -10,14 +10,14 @@ pub const COUNT: usize = 0;
 
 pub const HOLDER: usize = 1;
 
-// A unit's block: 4 cells of its own, 72 of its transmitter, 72 of its receiver, 66 of its master section.
-pub const BLOCK: usize = 214;
+// A unit's block: 4 cells of its own, 73 of its transmitter, 73 of its receiver, 66 of its master section.
+pub const BLOCK: usize = 216;
 
 pub const TRANSMITTER: usize = 4;
 
-pub const RECEIVER: usize = 76;
+pub const RECEIVER: usize = 77;
 
-pub const MASTER: usize = 148;
+pub const MASTER: usize = 150;
 
 // A unit's own cells: transmitter address - 1, receiver address - 1, and memory length - 1, above 16 bits and the low 16.
 pub const SENDS_AS: usize = 0;

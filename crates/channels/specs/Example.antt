@@ -1,5 +1,5 @@
 -- A restarted sender: unit 0 opens to unit 1, does TX INIT in mid-message and opens again to the same receiver, which is still open with
--- it. The prover computes the run.
+-- it; and what the serials are meanwhile. The prover computes the runs.
 -- Assumes nothing.
 use mathlib.Core.Bool.{Bool, true, false}
 use mathlib.Core.List.{List, [], _∷_, _++_}
@@ -12,16 +12,17 @@ use Rattle.cells.specs.Ranges.{inRange}
 use Rattle.cells.specs.Search.{firstOf}
 use Rattle.fitting.specs.Fit.{unitsFitted}
 use Rattle.fitting.specs.SetUp.{takenBy, unitsGood}
-use Rattle.promise.specs.World.{World, Event, fit, write, writeByte, slice, numberOf}
+use Rattle.promise.specs.World.{World, Event, fit, write, writeByte, slice, reset, numberOf}
 use Rattle.silos.specs.Silo.{words}
 use Rattle.words.specs.Crc.{crcBits, crcWord}
 use Rattle.words.specs.bits.RCR
 use Rattle.words.specs.bits.TCR
 use Rattle.channels.specs.Channels.{begun}
-use Rattle.channels.specs.History.{Past, past, receiverOpen, senderOpen}
+use Rattle.channels.specs.History.{Past, past, receiverOpen, receiverSerial, senderOpen, senderSerial}
 
+-- cells that hold anything: the fit writes them all
 abbrev blank : World
-blank = record { cells = replicate 430 0; memory = λ k. [] }
+blank = record { cells = replicate 434 7; memory = λ k. [] }
 
 -- two units, with the addresses 1 and 2
 abbrev setup : List ℕ
@@ -68,3 +69,46 @@ restarted = refl
 opened-again : shown (past (opening ++ restart ++ again) (begun blank setup fitted)) ≡ (true, true, 17, 17, 7 ∷ 11 ∷ [])
 unfolding unitsFitted takenBy unitsGood firstOf inRange ones crcWord crcBits
 opened-again = refl
+
+-- ---- the serials: T's, R's, and that of unit 0's own receiver
+
+abbrev serials : Past → ℕ × ℕ × ℕ
+serials p = (senderSerial (p .world) 0, receiverSerial (p .world) 1, receiverSerial (p .world) 0)
+
+-- unit 0 opens to its own receiver, does TX INIT, and has a word again
+abbrev elsewhere : List Event
+elsewhere =
+    write 0 16 (2 ^ RCR.RCV-DAT + 2 ^ RCR.RCV-WD)
+    ∷ write 0 0 (2 ^ TCR.ST-TXM + 2 ^ TCR.DC-00 + 2 ^ TCR.SND-WD)
+    ∷ slice 0 0
+    ∷ slice 0 0
+    ∷ write 0 0 (2 ^ TCR.TX-INIT)
+    ∷ write 0 4 13
+    ∷ []
+
+-- the first opening has the serial 1; TX INIT keeps it, and the word that closes R leaves it
+serials-opened : serials (past opening (begun blank setup fitted)) ≡ (1, 1, 0)
+unfolding unitsFitted takenBy unitsGood firstOf inRange ones crcWord crcBits
+serials-opened = refl
+
+serials-restarted : serials (past (opening ++ restart) (begun blank setup fitted)) ≡ (1, 1, 0)
+unfolding unitsFitted takenBy unitsGood firstOf inRange ones crcWord crcBits
+serials-restarted = refl
+
+-- T counts its openings to every receiver, and a receiver has the serial of its own last one
+serials-elsewhere : serials (past (opening ++ restart ++ elsewhere) (begun blank setup fitted)) ≡ (2, 1, 2)
+unfolding unitsFitted takenBy unitsGood firstOf inRange ones crcWord crcBits
+serials-elsewhere = refl
+
+serials-again : serials (past (opening ++ restart ++ elsewhere ++ again) (begun blank setup fitted)) ≡ (3, 3, 2)
+unfolding unitsFitted takenBy unitsGood firstOf inRange ones crcWord crcBits
+serials-again = refl
+
+-- RC INIT and reset keep them, and a fit makes them 0
+serials-kept : serials (past (opening ++ restart ++ elsewhere ++ again ++ (write 1 16 (2 ^ RCR.RC-INIT) ∷ reset 0 ∷ [])) (begun blank setup fitted)) ≡ (3, 3, 2)
+unfolding unitsFitted takenBy unitsGood firstOf inRange ones crcWord crcBits
+serials-kept = refl
+
+serials-fitted : serials (past (opening ++ restart ++ elsewhere ++ again ++ (fit setup ∷ [])) (begun blank setup fitted)) ≡ (0, 0, 0)
+unfolding unitsFitted takenBy unitsGood firstOf inRange ones crcWord crcBits
+serials-fitted = refl

@@ -1,22 +1,24 @@
--- The promise over runs of calls, since document 02, No. 1.
+-- The promise over runs of calls, since document 02, No. 1; and since No. 6 of the serials.
 -- Assumes nothing.
 use mathlib.Core.Bool.{true, false}
 use mathlib.Core.List.{List, [], _∷_, _++_}
 use mathlib.Core.Path.{_≡_}
-use Prim.Native.Nat.{ℕ, _≤_, _<_}
+use Prim.Native.Nat.{ℕ, _%_, _≤_, _<_}
 use lib.Bits.{bitXor}
 use Rattle.cells.specs.Fitted.{transmitterOf, receiverOf}
 use Rattle.cells.specs.Layout.{countIn, receiverAddress, transmitterAddress}
+use Rattle.laws.specs.Pick.{pick}
 use Rattle.pcl.specs.Link.{sliceCall}
 use Rattle.pcl.specs.Numbers.{aOf, addressOf, bOf, sliceNumber, sliceValue}
 use Rattle.pcl.specs.declared.answers.SliceCall.{SliceCall}
 use Rattle.promise.specs.Kinds.{kindOf, own}
-use Rattle.promise.specs.World.{World, Event, fit, write, writeByte, read, slice, move, period, reset, level, hostWrite, step}
+use Rattle.promise.specs.Reports.{Serial}
+use Rattle.promise.specs.World.{World, Event, fit, write, writeByte, read, slice, move, period, reset, level, serial, hostWrite, step}
 use Rattle.receiver.specs.declared.side.Receiver.{Receiver}
 use Rattle.sending.specs.Choice.{chosen, codeOf, sentBy}
 use Rattle.silos.specs.Silo.{count, oldest, words}
 use Rattle.transmitter.specs.declared.side.Transmitter.{Transmitter}
-use Rattle.channels.specs.History.{AllHanded, Handed, Past, next, past, receiverOpen, senderOpen}
+use Rattle.channels.specs.History.{AllHanded, Handed, Past, fitsAgain, next, opensNow, past, receiverOpen, receiverSerial, senderOpen}
 
 -- ---- a channel open at both ends
 
@@ -86,6 +88,7 @@ maskOf (move unit side) = 0
 maskOf (period unit) = 0
 maskOf (reset unit) = 0
 maskOf (level unit side) = 0
+maskOf (serial unit side) = 0
 maskOf (hostWrite unit place word) = 0
 
 -- what T sends is what R takes: it has A 10, and behind the words that R's silo held stands that one, with the lines inverted that the mask
@@ -110,11 +113,24 @@ SentByOne p =
     (e : Event) → Handed e → (receiver : ℕ) → receiver < countIn (next e p .world .cells) → Stores e (p .world) receiver
     → (sender : ℕ) × SentFrom e p receiver sender
 
--- and whenever a receiver opens, it is by a word of a transmitter's that was closed, and that opens in the same event
+-- "A call with unit and side shows it", the serial (document 02, No. 6): both ends show one number
+abbrev pub ShowOne : World → ℕ → ℕ → Type 0
+ShowOne w sender receiver = (number : ℕ) × Serial w sender 0 number × Serial w receiver 1 number
+
+-- and whenever a receiver opens, it is by a word of a transmitter's that was closed, and that opens in the same event; the serial is "copied
+-- to the receiver with the opening word"
 abbrev pub OpensTogether : Past → Type 0
 OpensTogether p =
     (e : Event) → Handed e → (receiver : ℕ) → receiver < countIn (next e p .world .cells) → receiverOpen (p .world) receiver ≡ false
-    → receiverOpen (next e p .world) receiver ≡ true → (sender : ℕ) × (senderOpen (p .world) sender ≡ false) × SentFrom e p receiver sender
+    → receiverOpen (next e p .world) receiver ≡ true
+    → (sender : ℕ) × (senderOpen (p .world) sender ≡ false) × SentFrom e p receiver sender × ShowOne (next e p .world) sender receiver
+
+-- and whenever a transmitter opens, a receiver opens with it
+abbrev pub OpensWithOne : Past → Type 0
+OpensWithOne p =
+    (e : Event) → Handed e → (sender : ℕ) → sender < countIn (next e p .world .cells) → senderOpen (p .world) sender ≡ false
+    → senderOpen (next e p .world) sender ≡ true
+    → (receiver : ℕ) × (receiverOpen (p .world) receiver ≡ false) × OpenBetween (next e p .world .cells) sender receiver
 
 -- and two words that R takes on one channel, so that its last opening is the same at both, came from the same transmitter, whose last
 -- opening is the same at both too
@@ -133,6 +149,31 @@ CountTogether p =
     (sender receiver : ℕ) → OpenBetween (p .world .cells) sender receiver
     → transmitterOf (p .world .cells) sender .end .block ≡ receiverOf (p .world .cells) receiver .end .block
 
+-- ---- serials: document 02, No. 6
+
+-- "the transmitter side raises by one at each opening, starting again at 0 after 65,535 .. Only a new fit resets it, to 0": T's serial is the
+-- count of its openings since the last fit, whatever else was called, INITs and resets included
+abbrev pub SerialCounts : Past → Type 0
+SerialCounts p = (sender : ℕ) → sender < countIn (p .world .cells) → Serial (p .world) sender 0 (p .openings sender % 65536)
+
+-- "copied to the receiver with the opening word" is in `OpensTogether`; "kept after closing": a receiver that does not open keeps the one that
+-- it has, and only a new fit resets it
+abbrev pub SerialKept : Past → Type 0
+SerialKept p =
+    (e : Event) → Handed e → (receiver : ℕ) → receiver < countIn (next e p .world .cells)
+    → opensNow (receiverOpen (p .world) receiver) (receiverOpen (next e p .world) receiver) ≡ false
+    → receiverSerial (next e p .world) receiver ≡ pick (fitsAgain e (p .world)) 0 (receiverSerial (p .world) receiver)
+
+-- while a channel is open at both ends they show the same one
+abbrev pub SerialTogether : Past → Type 0
+SerialTogether p = (sender receiver : ℕ) → OpenBetween (p .world .cells) sender receiver → ShowOne (p .world) sender receiver
+
+-- and so they do after the event that closes it at either end: a success, a rejection, an error, an INIT, a reset; but for a fit
+abbrev pub SerialOutlasts : Past → Type 0
+SerialOutlasts p =
+    (e : Event) → Handed e → fitsAgain e (p .world) ≡ false → (sender receiver : ℕ) → OpenBetween (p .world .cells) sender receiver
+    → ShowOne (next e p .world) sender receiver
+
 -- ---- success
 
 -- what a slice call answers
@@ -145,11 +186,14 @@ pub record Succeeds (call : SliceCall) : Type 0 where
   pub a : aOf (sliceValue call) ≡ 3
   pub b : bOf (sliceValue call) ≡ 3
 
--- it is T's slice, and before it T and R were open with each other, on a channel that both opened in one slice
+-- it is T's slice, and before it T and R were open with each other, on a channel that both opened in one slice; after it they show one
+-- serial
 pub record SucceededBetween (mask parity : ℕ) (p : Past) (sender receiver : ℕ) : Type 0 where
   pub address : transmitterAddress (p .world .cells) sender ≡ addressOf (sliceValue (calledIn p mask parity))
   pub between : OpenBetween (p .world .cells) sender receiver
   pub together : p .sender sender ≡ p .receiver receiver
+  -- document 02, No. 6: "both ends show the same one at success"
+  pub serial : ShowOne (next (slice mask parity) p .world) sender receiver
 
 -- a message succeeds only between the two ends of one channel
 abbrev pub SucceedsTogether : Past → Type 0
@@ -164,6 +208,11 @@ pub record Channels (p : Past) : Type 0 where
   pub opensInOwnSlice : OpensInOwnSlice p
   pub sentByOne : SentByOne p
   pub opensTogether : OpensTogether p
+  pub opensWithOne : OpensWithOne p
   pub onOneChannel : OnOneChannel p
   pub countTogether : CountTogether p
+  pub serialCounts : SerialCounts p
+  pub serialKept : SerialKept p
+  pub serialTogether : SerialTogether p
+  pub serialOutlasts : SerialOutlasts p
   pub succeedsTogether : SucceedsTogether p

@@ -1,4 +1,4 @@
--- What the windows of a transmitter and of a receiver have in common: 72 cells, of which the first eight are the head and the others the
+-- What the windows of a transmitter and of a receiver have in common: 73 cells, of which the first nine are the head and the others the
 -- silo's. Every pattern of the cells has a meaning (docs/STATE.md has the table): each number is read within its limits.
 -- Assumes nothing.
 use mathlib.Core.Bool.{Bool}
@@ -46,9 +46,13 @@ STATUS = 6
 abbrev pub CRC : ℕ
 CRC = 7
 
+-- the serial of the last opening (document 02, No. 6)
+abbrev pub SERIAL : ℕ
+SERIAL = 8
+
 -- the first of the silo's 64 cells
 abbrev pub SILO : ℕ
-SILO = 8
+SILO = 9
 
 -- ---- in the control cell
 
@@ -77,6 +81,7 @@ headOf end own control status =
     ∷ control
     ∷ status
     ∷ end .crc
+    ∷ end .serial
     ∷ []
 
 abbrev pub windowOf : End → ℕ → ℕ → ℕ → List ℕ
@@ -113,4 +118,5 @@ endIn w opened mark =
       block = min 128 (cell w BLOCK);
       crc = cell w CRC % 2 ^ 16;
       mark = mark;
+      serial = cell w SERIAL % 2 ^ 16;
     }

@@ -1,4 +1,4 @@
--- A receiver as the 72 cells of its window, and the receiver that a window holds, whatever its cells hold.
+-- A receiver as the 73 cells of its window, and the receiver that a window holds, whatever its cells hold.
 -- Assumes nothing.
 use mathlib.Core.Bool.{Bool, _&&_}
 use mathlib.Core.List.{List}
@@ -55,4 +55,4 @@ decReceiver w =
 
 -- the receiver that the cells hold at a place
 abbrev pub receiverAt : List ℕ → ℕ → Receiver
-receiverAt cells at = decReceiver (window cells at 72)
+receiverAt cells at = decReceiver (window cells at 73)

@@ -1,4 +1,4 @@
--- A transmitter as the 72 cells of its window, and the transmitter that a window holds, whatever its cells hold.
+-- A transmitter as the 73 cells of its window, and the transmitter that a window holds, whatever its cells hold.
 -- Assumes nothing.
 use mathlib.Core.Bool.{Bool, _&&_}
 use mathlib.Core.List.{List}
@@ -56,4 +56,4 @@ decTransmitter w =
 
 -- the transmitter that the cells hold at a place
 abbrev pub transmitterAt : List ℕ → ℕ → Transmitter
-transmitterAt cells at = decTransmitter (window cells at 72)
+transmitterAt cells at = decTransmitter (window cells at 73)

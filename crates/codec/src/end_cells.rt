@@ -16,10 +16,10 @@ ghost use mathlib.Core.Path.{_≡_};
 ghost use Rattle.codec.specs.Ends.{headOf, windowOf, siloIn, loadOf, codesOf, endIn};
 
 // The cells of a transmitter, and those of a receiver: the head, and the silo's 64.
-pub const SIDE: usize = 72;
+pub const SIDE: usize = 73;
 
 // The head's cells: the words held, the words since the last CRC, what only one side has (the destination latched at the opening, or
-// whether the message is truncated), the low half of the address / 2, the byte count / 2, two cells of bits, and the CRC.
+// whether the message is truncated), the low half of the address / 2, the byte count / 2, two cells of bits, the CRC, and the serial.
 pub const HELD: usize = 0;
 
 const BLOCK: usize = 1;
@@ -36,7 +36,9 @@ pub const STATUS: usize = 6;
 
 const CRC: usize = 7;
 
-const SILO: usize = 8;
+const SERIAL: usize = 8;
+
+const SILO: usize = 9;
 
 // In the control cell: whether the count is loaded, the period's mark, and EA16 with EA17 above it.
 const LOADED: u16 = 1;
@@ -65,6 +67,7 @@ fn head(end: End, own: u16, control: u16, status: u16) -> [u16; SILO]
     let address = load.address;
     let count = load.count.0;
     let crc = end.crc;
+    let serial = end.serial;
     [
         held,
         block,
@@ -74,6 +77,7 @@ fn head(end: End, own: u16, control: u16, status: u16) -> [u16; SILO]
         control,
         status,
         crc,
+        serial,
     ]
 }
 
@@ -127,5 +131,6 @@ pub fn end_in(w: [u16; SIDE], opened: bool, mark: bool) -> End
         block: read_most(w[BLOCK], 128),
         crc: read_word(w[CRC]),
         mark,
+        serial: read_word(w[SERIAL]),
     }
 }

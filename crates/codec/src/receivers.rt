@@ -86,7 +86,7 @@ pub fn decode(w: [u16; SIDE]) -> Receiver
 
 // The receiver that the cells hold at `at`.
 pub fn load_receiver(cells: &[u16], at: usize) -> Receiver
-    requires { ⌜ at + 72 ≤ length (now cells) ⌝ }
+    requires { ⌜ at + 73 ≤ length (now cells) ⌝ }
     ensures { λ x. ⌜ x ≡ receiverAt (now (cells .entry)) at ⌝ }
 {
     let mut w = [0u16; SIDE];
@@ -96,7 +96,7 @@ pub fn load_receiver(cells: &[u16], at: usize) -> Receiver
 
 // The receiver into the cells at `at`.
 pub fn store_receiver(cells: &mut [u16], at: usize, r: Receiver)
-    requires { ⌜ (at + 72 ≤ length (now cells)) × Within r ⌝ }
+    requires { ⌜ (at + 73 ≤ length (now cells)) × Within r ⌝ }
     ensures { λ _. ⌜ now (cells .exit) ≡ splice (now (cells .entry)) at (encReceiver r) ⌝ }
 {
     let w = encode(r);

@@ -91,7 +91,7 @@ pub fn decode(w: [u16; SIDE]) -> Transmitter
 
 // The transmitter that the cells hold at `at`.
 pub fn load_transmitter(cells: &[u16], at: usize) -> Transmitter
-    requires { ⌜ at + 72 ≤ length (now cells) ⌝ }
+    requires { ⌜ at + 73 ≤ length (now cells) ⌝ }
     ensures { λ r. ⌜ r ≡ transmitterAt (now (cells .entry)) at ⌝ }
 {
     let mut w = [0u16; SIDE];
@@ -101,7 +101,7 @@ pub fn load_transmitter(cells: &[u16], at: usize) -> Transmitter
 
 // The transmitter into the cells at `at`.
 pub fn store_transmitter(cells: &mut [u16], at: usize, t: Transmitter)
-    requires { ⌜ (at + 72 ≤ length (now cells)) × Within t ⌝ }
+    requires { ⌜ (at + 73 ≤ length (now cells)) × Within t ⌝ }
     ensures { λ _. ⌜ now (cells .exit) ≡ splice (now (cells .entry)) at (encTransmitter t) ⌝ }
 {
     let w = encode(t);

@@ -4,6 +4,7 @@ use mathlib.Core.Bool.{Bool}
 use mathlib.Core.List.{List, _++_}
 use Prim.Native.Nat.{ℕ, _/_}
 use lib.ListN.{take, drop}
+use Rattle.ends.specs.Ends.{raised}
 use Rattle.receiver.specs.declared.side.Receiver.{Receiver}
 use Rattle.silos.specs.Silo.{words}
 use Rattle.transmitter.specs.declared.side.Transmitter.{Transmitter}
@@ -34,6 +35,8 @@ pub record Message : Type 0 where
   pub receivingLength : ℕ
   -- whether it is one memory
   pub shared : Bool
+  -- the serial of its opening (document 02, No. 6)
+  pub serial : ℕ
 
 -- ---- the message that an opening opens. Conditions of demand 3: "all n words come by one load's moves .. (those in T's silo at the
 -- opening, then those the load has left, from TSBA on)"
@@ -70,4 +73,5 @@ messageOf x from sendingLength receivingLength shared =
       sendingLength = sendingLength;
       receivingLength = receivingLength;
       shared = shared;
+      serial = raised (x .transmitter .end .serial);
     }

@@ -35,3 +35,6 @@ pub record Delivered (m : Message) (x : Ends) : Type 0 where
   pub memory : x .receiving ≡ written (m .before) (m .target) (m .content)
   -- and R's load stands behind the last of them, at a byte address
   pub place : x .receiver .end .load .address .0 ≡ (m .target + length (m .content)) * 2
+  -- document 02, No. 6: "both ends show the same one at success", the opening's
+  pub serial : x .transmitter .end .serial ≡ m .serial
+  pub serialThere : x .receiver .end .serial ≡ m .serial

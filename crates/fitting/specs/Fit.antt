@@ -10,10 +10,10 @@ use Rattle.receiver.specs.Side as R
 use Rattle.transmitter.specs.Side as T
 use Rattle.fitting.specs.SetUp.{SENDS-AS, RECEIVES-AS, SWITCH, MEMORY, numberOf, countOf}
 
--- one unit: its own numbers, and its sides as they start
+-- one unit: its own numbers, and its sides as they start, with the serial 0: document 02, No. 6, "Only a new fit resets it, to 0"
 abbrev pub fittedAs : List ℕ → ℕ → ℕ → ℕ → ℕ → ℕ → List ℕ
 fittedAs cells unit transmitter receiver switch memory =
-    unitFitted cells unit (encUnit transmitter receiver memory) T.initial R.initial (M.initial switch)
+    unitFitted cells unit (encUnit transmitter receiver memory) (T.initial 0) (R.initial 0) (M.initial switch)
 
 -- the first n units of a set-up
 abbrev pub unitOf : List ℕ → List ℕ → ℕ → List ℕ

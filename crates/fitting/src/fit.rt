@@ -22,7 +22,7 @@ ghost use Rattle.cells.specs.Layout.{unitPlace};
 ghost use Rattle.fitting.specs.Fit.{fittedAs, unitsFitted, fit};
 ghost use Rattle.fitting.specs.SetUp.{countOf, setUpGood};
 
-// The switch of the master section comes with the unit's own numbers.
+// The switch of the master section comes with the unit's own numbers. Both serials are 0.
 fn fit_unit(
     cells: &mut [u16],
     unit: usize,
@@ -36,8 +36,8 @@ fn fit_unit(
     ensures { λ _. ⌜ now (cells .exit) ≡ fittedAs (now (cells .entry)) unit transmitter receiver switch memory ⌝ }
 {
     store_unit(cells, HEADER + unit * BLOCK, transmitter, receiver, memory);
-    put_transmitter(cells, unit, transmitter::side::start());
-    put_receiver(cells, unit, receiver::side::start());
+    put_transmitter(cells, unit, transmitter::side::start(0));
+    put_receiver(cells, unit, receiver::side::start(0));
     put_master(cells, unit, Master::initial(switch));
 }
 

@@ -13,7 +13,7 @@ ghost use Prim.Native.Nat.{_≤_};
 ghost use lib.ListN.{length};
 
 // The cells of 16 units, and their memories of 64 words.
-const CELLS: usize = 3426;
+const CELLS: usize = 3458;
 
 const MEMORIES: usize = 1024;
 

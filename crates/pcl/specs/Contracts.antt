@@ -1,19 +1,20 @@
 -- The contract of each public function: what it promises of its outcome, for every argument and everything lent. It is all that the
 -- function's `ensures` says.
 -- An outcome is the answer, the cells as they are left, and for a move the memory as it is left. What is lent to be read alone, a set-up
--- and the cells of a level, stays as it was.
+-- and the cells of a level or of a serial, stays as it was.
 -- Assumes nothing.
 use mathlib.Core.List.{List}
 use mathlib.Core.Path.{_≡_}
 use Prim.Native.Nat.{ℕ}
 use Rattle.pcl.specs.Calls.{readCall, writeCall, byteCall, resetCall, periodCall}
-use Rattle.pcl.specs.Face.{fitFace, sliceFace, readFace, writeFace, byteFace, resetFace, periodFace, moveFace, levelFace}
+use Rattle.pcl.specs.Face.{fitFace, sliceFace, readFace, writeFace, byteFace, resetFace, periodFace, moveFace, levelFace, serialFace}
 use Rattle.pcl.specs.Link.{fitCall, sliceCall}
-use Rattle.pcl.specs.Sides.{moveCall, levelCall}
+use Rattle.pcl.specs.Sides.{moveCall, levelCall, serialCall}
 use Rattle.pcl.specs.declared.answers.FitCall.{FitCall}
 use Rattle.pcl.specs.declared.answers.LevelCall.{LevelCall}
 use Rattle.pcl.specs.declared.answers.MoveCall.{MoveCall}
 use Rattle.pcl.specs.declared.answers.ReadCall.{ReadCall}
+use Rattle.pcl.specs.declared.answers.SerialCall.{SerialCall}
 use Rattle.pcl.specs.declared.answers.SliceCall.{SliceCall}
 use Rattle.pcl.specs.declared.answers.UnitCall.{UnitCall}
 use Rattle.pcl.specs.declared.answers.WriteCall.{WriteCall}
@@ -47,6 +48,9 @@ MoveOutcome cells memory unit side outcome = outcome ≡ moveCall cells memory u
 abbrev pub LevelOutcome : List ℕ → ℕ → ℕ → LevelCall → Type 0
 LevelOutcome cells unit side outcome = outcome ≡ levelCall cells unit side
 
+abbrev pub SerialOutcome : List ℕ → ℕ → ℕ → SerialCall → Type 0
+SerialOutcome cells unit side outcome = outcome ≡ serialCall cells unit side
+
 -- ---- for C: the packed number
 
 abbrev pub FitFaceOutcome : List ℕ → List ℕ → ℕ × List ℕ → Type 0
@@ -75,3 +79,6 @@ MoveFaceOutcome cells memory unit side outcome = outcome ≡ moveFace cells memo
 
 abbrev pub LevelFaceOutcome : List ℕ → ℕ → ℕ → ℕ → Type 0
 LevelFaceOutcome cells unit side outcome = outcome ≡ levelFace cells unit side
+
+abbrev pub SerialFaceOutcome : List ℕ → ℕ → ℕ → ℕ → Type 0
+SerialFaceOutcome cells unit side outcome = outcome ≡ serialFace cells unit side

@@ -4,8 +4,8 @@ use mathlib.Core.List.{List}
 use Prim.Native.Nat.{ℕ}
 use Rattle.pcl.specs.Calls.{readCall, writeCall, byteCall, resetCall, periodCall}
 use Rattle.pcl.specs.Link.{fitCall, sliceCall}
-use Rattle.pcl.specs.Numbers.{readPacked, writeCallNumber, doneNumber, fitNumber, slicePacked, movePacked, levelPacked}
-use Rattle.pcl.specs.Sides.{moveCall, levelCall}
+use Rattle.pcl.specs.Numbers.{readPacked, writeCallNumber, doneNumber, fitNumber, slicePacked, movePacked, levelPacked, serialPacked}
+use Rattle.pcl.specs.Sides.{moveCall, levelCall, serialCall}
 use Rattle.pcl.specs.declared.answers.MoveCall.{MoveCall}
 
 abbrev pub packed : {A : Type 0} → (A → ℕ) → A × List ℕ → ℕ × List ℕ
@@ -38,6 +38,9 @@ packedMove p = (movePacked (p .0), p .1, p .2)
 abbrev pub moveFace : List ℕ → List ℕ → ℕ → ℕ → ℕ × List ℕ × List ℕ
 moveFace cells memory unit side = packedMove (moveCall cells memory unit side)
 
--- a level changes nothing, and is lent the cells to read alone
+-- a level changes nothing, nor does a serial, and each is lent the cells to read alone
 abbrev pub levelFace : List ℕ → ℕ → ℕ → ℕ
 levelFace cells unit side = levelPacked (levelCall cells unit side)
+
+abbrev pub serialFace : List ℕ → ℕ → ℕ → ℕ
+serialFace cells unit side = serialPacked (serialCall cells unit side)

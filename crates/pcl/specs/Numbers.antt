@@ -10,6 +10,7 @@ use Rattle.pcl.specs.declared.answers.FitCall.{FitCall}
 use Rattle.pcl.specs.declared.answers.LevelCall.{LevelCall}
 use Rattle.pcl.specs.declared.answers.MoveCall.{MoveCall}
 use Rattle.pcl.specs.declared.answers.ReadCall.{ReadCall}
+use Rattle.pcl.specs.declared.answers.SerialCall.{SerialCall}
 use Rattle.pcl.specs.declared.answers.SliceCall.{SliceCall}
 use Rattle.pcl.specs.declared.answers.UnitCall.{UnitCall}
 use Rattle.pcl.specs.declared.answers.WriteCall.{WriteCall}
@@ -71,6 +72,19 @@ levelValue (LevelCall.Level b) = bit b
 
 abbrev pub levelPacked : LevelCall → ℕ
 levelPacked c = levelNumber c + levelValue c * 65536
+
+abbrev pub serialNumber : SerialCall → ℕ
+serialNumber SerialCall.BadState = 9
+serialNumber SerialCall.NoUnit = 1
+serialNumber (SerialCall.Serial s) = 0
+
+abbrev pub serialValue : SerialCall → ℕ
+serialValue SerialCall.BadState = 0
+serialValue SerialCall.NoUnit = 0
+serialValue (SerialCall.Serial s) = s
+
+abbrev pub serialPacked : SerialCall → ℕ
+serialPacked c = serialNumber c + serialValue c * 65536
 
 -- 8 "no master at a slice"; 7 "parity mask above 1"
 abbrev pub slotNumber : Slot → ℕ

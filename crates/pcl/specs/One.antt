@@ -4,7 +4,7 @@
 use mathlib.Core.List.{List}
 use mathlib.Core.Path.{_≡_, sym, _∙_}
 use Prim.Native.Nat.{ℕ}
-use Rattle.pcl.specs.Contracts.{FitOutcome, SliceOutcome, ReadOutcome, WriteOutcome, ByteOutcome, ResetOutcome, PeriodOutcome, MoveOutcome, LevelOutcome, FitFaceOutcome, SliceFaceOutcome, ReadFaceOutcome, WriteFaceOutcome, ByteFaceOutcome, ResetFaceOutcome, PeriodFaceOutcome, MoveFaceOutcome, LevelFaceOutcome}
+use Rattle.pcl.specs.Contracts.{FitOutcome, SliceOutcome, ReadOutcome, WriteOutcome, ByteOutcome, ResetOutcome, PeriodOutcome, MoveOutcome, LevelOutcome, SerialOutcome, FitFaceOutcome, SliceFaceOutcome, ReadFaceOutcome, WriteFaceOutcome, ByteFaceOutcome, ResetFaceOutcome, PeriodFaceOutcome, MoveFaceOutcome, LevelFaceOutcome, SerialFaceOutcome}
 
 abbrev pub Single : {A : Type 0} → (A → Type 0) → Type 0
 Single {A} Contract = (x y : A) → Contract x → Contract y → x ≡ y
@@ -40,3 +40,6 @@ module _ (cells : List ℕ) where
 
   pub one-level : (unit side : ℕ) → Single (LevelOutcome cells unit side) × Single (LevelFaceOutcome cells unit side)
   one-level unit side = (single _, single _)
+
+  pub one-serial : (unit side : ℕ) → Single (SerialOutcome cells unit side) × Single (SerialFaceOutcome cells unit side)
+  one-serial unit side = (single _, single _)

@@ -14,6 +14,7 @@ use Rattle.words.specs.declared.answers.Move.{Move}
 use Rattle.pcl.specs.Calls.{admitted}
 use Rattle.pcl.specs.declared.answers.LevelCall.{LevelCall}
 use Rattle.pcl.specs.declared.answers.MoveCall.{MoveCall}
+use Rattle.pcl.specs.declared.answers.SerialCall.{SerialCall}
 
 -- the transmitter's, the receiver's, or 1
 abbrev pub atSide : {A : Type 0} → ℕ → A → A → A → A
@@ -44,3 +45,11 @@ fittedLevel cells unit side =
 
 abbrev pub levelCall : List ℕ → ℕ → ℕ → LevelCall
 levelCall cells unit side = admitted cells unit LevelCall.BadState LevelCall.NoUnit (fittedLevel cells unit side)
+
+-- document 02, No. 6: "A call with unit and side shows it", the serial; it changes nothing. "Refusals: as number 1."
+abbrev pub fittedSerial : List ℕ → ℕ → ℕ → SerialCall
+fittedSerial cells unit side =
+    atSide side (SerialCall.Serial (transmitterOf cells unit .end .serial)) (SerialCall.Serial (receiverOf cells unit .end .serial)) SerialCall.NoUnit
+
+abbrev pub serialCall : List ℕ → ℕ → ℕ → SerialCall
+serialCall cells unit side = admitted cells unit SerialCall.BadState SerialCall.NoUnit (fittedSerial cells unit side)

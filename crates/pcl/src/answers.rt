@@ -46,6 +46,13 @@ pub enum LevelCall {
     Level(bool),
 }
 
+// The serial of a side.
+pub enum SerialCall {
+    BadState,
+    NoUnit,
+    Serial(u16),
+}
+
 // A call at a unit that has no more to say.
 pub enum UnitCall {
     BadState,

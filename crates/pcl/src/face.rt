@@ -11,11 +11,13 @@ use crate::packing::pack_fit;
 use crate::packing::pack_level;
 use crate::packing::pack_move;
 use crate::packing::pack_read;
+use crate::packing::pack_serial;
 use crate::packing::pack_slice;
 use crate::packing::pack_write;
 use crate::sides::level;
 use crate::sides::move_word;
-ghost use Rattle.pcl.specs.Contracts.{FitFaceOutcome, ReadFaceOutcome, WriteFaceOutcome, ByteFaceOutcome, ResetFaceOutcome, SliceFaceOutcome, MoveFaceOutcome, PeriodFaceOutcome, LevelFaceOutcome};
+use crate::sides::serial;
+ghost use Rattle.pcl.specs.Contracts.{FitFaceOutcome, ReadFaceOutcome, WriteFaceOutcome, ByteFaceOutcome, ResetFaceOutcome, SliceFaceOutcome, MoveFaceOutcome, PeriodFaceOutcome, LevelFaceOutcome, SerialFaceOutcome};
 
 #[no_mangle]
 pub extern "C" fn pcl_fit(cells: &mut [u16], setup: &[u32]) -> u32
@@ -78,4 +80,11 @@ pub extern "C" fn pcl_level(cells: &[u16], unit: u32, side: u32) -> u32
     ensures { λ r. ⌜ LevelFaceOutcome (now (cells .entry)) unit side r ⌝ }
 {
     pack_level(level(cells, unit, side))
+}
+
+#[no_mangle]
+pub extern "C" fn pcl_serial(cells: &[u16], unit: u32, side: u32) -> u32
+    ensures { λ r. ⌜ SerialFaceOutcome (now (cells .entry)) unit side r ⌝ }
+{
+    pack_serial(serial(cells, unit, side))
 }

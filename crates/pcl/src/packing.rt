@@ -3,6 +3,7 @@ use crate::answers::FitCall;
 use crate::answers::LevelCall;
 use crate::answers::MoveCall;
 use crate::answers::ReadCall;
+use crate::answers::SerialCall;
 use crate::answers::SliceCall;
 use crate::answers::UnitCall;
 use crate::answers::WriteCall;
@@ -12,7 +13,7 @@ use words::answers::Move;
 use words::answers::Read;
 use words::answers::Write;
 ghost use mathlib.Core.Path.{_≡_};
-ghost use Rattle.pcl.specs.Numbers.{readPacked, writeCallNumber, doneNumber, fitNumber, movePacked, levelPacked, slicePacked};
+ghost use Rattle.pcl.specs.Numbers.{readPacked, writeCallNumber, doneNumber, fitNumber, movePacked, levelPacked, serialPacked, slicePacked};
 ghost use Rattle.pcl.specs.laws.Narrow.{Narrow, NarrowSlot, NarrowCall};
 ghost use Rattle.pcl.specs.laws.Packed.{foundPacked, movedPacked, givenPacked, slotPacked};
 ghost use Rattle.words.specs.Answers.{writeNumber};
@@ -106,6 +107,16 @@ pub fn pack_level(call: LevelCall) -> u32
         LevelCall::BadState => 9,
         LevelCall::NoUnit => 1,
         LevelCall::Level(level) => level as u32 * 65536,
+    }
+}
+
+pub fn pack_serial(call: SerialCall) -> u32
+    ensures { λ r. ⌜ r ≡ serialPacked call ⌝ }
+{
+    match call {
+        SerialCall::BadState => 9,
+        SerialCall::NoUnit => 1,
+        SerialCall::Serial(serial) => serial as u32 * 65536,
     }
 }
 

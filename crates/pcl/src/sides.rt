@@ -1,6 +1,7 @@
 // The calls at one side of a unit: 0 its transmitter, 1 its receiver.
 use crate::answers::LevelCall;
 use crate::answers::MoveCall;
+use crate::answers::SerialCall;
 use crate::units::Admission;
 use crate::units::admit;
 use cells::units::memory_length;
@@ -8,12 +9,14 @@ use moves::levels::receiver_level;
 use moves::levels::transmitter_level;
 use moves::moving::move_receiver;
 use moves::moving::move_transmitter;
+use moves::serials::receiver_serial;
+use moves::serials::transmitter_serial;
 ghost use mathlib.Core.Path.{_≡_};
 ghost use mathlib.Core.List.{List};
 ghost use Prim.Native.Nat.{ℕ};
 ghost use Rattle.cells.specs.Fitted.{Fitted};
-ghost use Rattle.pcl.specs.Contracts.{MoveOutcome, LevelOutcome};
-ghost use Rattle.pcl.specs.Sides.{fittedMove, fittedLevel};
+ghost use Rattle.pcl.specs.Contracts.{MoveOutcome, LevelOutcome, SerialOutcome};
+ghost use Rattle.pcl.specs.Sides.{fittedMove, fittedLevel, fittedSerial};
 
 // The lent memory has to have the unit's fitted length.
 fn move_fitted(cells: &mut [u16], memory: &mut [u16], unit: usize, side: u32) -> MoveCall
@@ -61,5 +64,27 @@ pub fn level(cells: &[u16], unit: u32, side: u32) -> LevelCall
         Admission::BadState => LevelCall::BadState,
         Admission::NoUnit => LevelCall::NoUnit,
         Admission::Fitted => level_fitted(cells, unit as usize, side),
+    }
+}
+
+fn serial_fitted(cells: &[u16], unit: usize, side: u32) -> SerialCall
+    requires { ⌜ Fitted (now cells) unit ⌝ }
+    ensures { λ r. ⌜ r ≡ fittedSerial (now (cells .entry)) unit side ⌝ }
+{
+    match side {
+        0 => SerialCall::Serial(transmitter_serial(cells, unit)),
+        1 => SerialCall::Serial(receiver_serial(cells, unit)),
+        _ => SerialCall::NoUnit,
+    }
+}
+
+pub fn serial(cells: &[u16], unit: u32, side: u32) -> SerialCall
+    ensures { λ r. ⌜ SerialOutcome (now (cells .entry)) unit side r ⌝ }
+{
+    let admission = admit(cells, unit);
+    match admission {
+        Admission::BadState => SerialCall::BadState,
+        Admission::NoUnit => SerialCall::NoUnit,
+        Admission::Fitted => serial_fitted(cells, unit as usize, side),
     }
 }

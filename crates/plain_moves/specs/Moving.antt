@@ -41,14 +41,15 @@ headMoved cells at held =
     ∷ cell cells (at + 5)
     ∷ cell cells (at + 6)
     ∷ cell cells (at + 7)
+    ∷ cell cells (at + 8)
     ∷ []
 
 -- a window with its load one word on, and a word more in its silo, or its oldest word taken
 abbrev pub wordPut : List ℕ → ℕ → ℕ → List ℕ
-wordPut cells at word = headMoved cells at (cell cells at + 1) ++ set (window cells (at + 8) 64) (cell cells at) word
+wordPut cells at word = headMoved cells at (cell cells at + 1) ++ set (window cells (at + 9) 64) (cell cells at) word
 
 abbrev pub wordTaken : List ℕ → ℕ → List ℕ
-wordTaken cells at = headMoved cells at (cell cells at - 1) ++ shifted (window cells (at + 8) 64)
+wordTaken cells at = headMoved cells at (cell cells at - 1) ++ shifted (window cells (at + 9) 64)
 
 -- the answer and the cells after a transmitter's move
 abbrev pub transmitterLoaded : List ℕ → List ℕ → ℕ → Move × List ℕ

@@ -79,7 +79,7 @@ fn place(low: u16, control: u16) -> usize
 
 // The head of a side with so many words, and with its load one word on.
 fn put_head(cells: &mut [u16], at: usize, held: u16)
-    requires { ⌜ (at + 72 ≤ length (now cells)) × (cell (now cells) (at + 3) < 32767) × (cell (now cells) (at + 4) < 32767) ⌝ }
+    requires { ⌜ (at + 73 ≤ length (now cells)) × (cell (now cells) (at + 3) < 32767) × (cell (now cells) (at + 4) < 32767) ⌝ }
     ensures { λ _. ⌜ now (cells .exit) ≡ splice (now (cells .entry)) at (headMoved (now (cells .entry)) at held) ⌝ }
 {
     let head = [
@@ -91,30 +91,31 @@ fn put_head(cells: &mut [u16], at: usize, held: u16)
         cells[at + 5],
         cells[at + 6],
         cells[at + 7],
+        cells[at + 8],
     ];
     put(cells, at, &head);
 }
 
 // A word into the silo.
 fn put_word(cells: &mut [u16], at: usize, word: u16)
-    requires { ⌜ (at + 72 ≤ length (now cells)) × (cell (now cells) (at + 3) < 32767) × (cell (now cells) (at + 4) < 32767) × (cell (now cells) at < 64) ⌝ }
+    requires { ⌜ (at + 73 ≤ length (now cells)) × (cell (now cells) (at + 3) < 32767) × (cell (now cells) (at + 4) < 32767) × (cell (now cells) at < 64) ⌝ }
     ensures { λ _. ⌜ now (cells .exit) ≡ splice (now (cells .entry)) at (wordPut (now (cells .entry)) at word) ⌝ }
 {
     let held = cells[at];
     put_head(cells, at, held + 1);
-    let free = at + 8 + held as usize;
+    let free = at + 9 + held as usize;
     cells[free] = word;
 }
 
 // The oldest word out of the silo.
 fn take_word(cells: &mut [u16], at: usize) -> u16
-    requires { ⌜ (at + 73 ≤ length (now cells)) × (cell (now cells) (at + 3) < 32767) × (cell (now cells) (at + 4) < 32767) × (1 ≤ cell (now cells) at) ⌝ }
-    ensures { λ r. ⌜ (now (cells .exit) ≡ splice (now (cells .entry)) at (wordTaken (now (cells .entry)) at)) × (r ≡ cell (now (cells .entry)) (at + 8)) ⌝ }
+    requires { ⌜ (at + 74 ≤ length (now cells)) × (cell (now cells) (at + 3) < 32767) × (cell (now cells) (at + 4) < 32767) × (1 ≤ cell (now cells) at) ⌝ }
+    ensures { λ r. ⌜ (now (cells .exit) ≡ splice (now (cells .entry)) at (wordTaken (now (cells .entry)) at)) × (r ≡ cell (now (cells .entry)) (at + 9)) ⌝ }
 {
     let held = cells[at];
-    let word = cells[at + 8];
+    let word = cells[at + 9];
     put_head(cells, at, held - 1);
-    shift(cells, at + 8);
+    shift(cells, at + 9);
     word
 }
 

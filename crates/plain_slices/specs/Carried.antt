@@ -15,11 +15,11 @@ use Rattle.slices.specs.Slice.{exchanged}
 use Rattle.slices.specs.declared.Pair.{Pair}
 use Rattle.transmitter.specs.declared.side.Transmitter.{Transmitter}
 
--- two windows of 72 cells, apart, each with a cell behind it
+-- two windows of 73 cells, apart, each with a cell behind it
 pub record Placed (cells : List ℕ) (t r : ℕ) : Type 0 where
-  pub sender : t + 73 ≤ length cells
-  pub receiver : r + 73 ≤ length cells
-  pub apart : (t + 72 ≤ r) ⊎ (r + 72 ≤ t)
+  pub sender : t + 74 ≤ length cells
+  pub receiver : r + 74 ≤ length cells
+  pub apart : (t + 73 ≤ r) ⊎ (r + 73 ≤ t)
 
 -- both sides put back
 abbrev pub putBoth : List ℕ → ℕ → ℕ → Transmitter → Receiver → List ℕ

@@ -9,11 +9,11 @@ use Rattle.words.specs.Crc.{crcWord}
 
 abbrev pub headed : List ℕ → ℕ → ℕ → ℕ → ℕ → ℕ → ℕ → List ℕ → List ℕ
 headed cells at held block control status crc silo =
-    held ∷ block ∷ cell cells (at + 2) ∷ cell cells (at + 3) ∷ cell cells (at + 4) ∷ control ∷ status ∷ crc ∷ silo
+    held ∷ block ∷ cell cells (at + 2) ∷ cell cells (at + 3) ∷ cell cells (at + 4) ∷ control ∷ status ∷ crc ∷ cell cells (at + 8) ∷ silo
 
 -- a window written, with the silo's cells by what they were
 abbrev pub written : List ℕ → ℕ → ℕ → ℕ → ℕ → ℕ → ℕ → (List ℕ → List ℕ) → List ℕ
-written cells at held block control status crc f = splice cells at (headed cells at held block control status crc (f (window cells (at + 8) 64)))
+written cells at held block control status crc f = splice cells at (headed cells at held block control status crc (f (window cells (at + 9) 64)))
 
 -- the control cell without the period's mark, and the status cell with the codes 10 and 11
 abbrev pub unmarked : ℕ → ℕ
@@ -36,7 +36,7 @@ wordStored cells r word crc =
 
 abbrev pub wordCarried : List ℕ → ℕ → ℕ → List ℕ
 wordCarried cells t r =
-    wordStored (wordSent cells t (crcWord (cell cells (t + 7)) (cell cells (t + 8)))) r (cell cells (t + 8)) (crcWord (cell cells (t + 7)) (cell cells (t + 8)))
+    wordStored (wordSent cells t (crcWord (cell cells (t + 7)) (cell cells (t + 9)))) r (cell cells (t + 9)) (crcWord (cell cells (t + 7)) (cell cells (t + 9)))
 
 -- a due CRC was sent, and taken: codes 10 and 01, and a verdict is awaited; where none was owed, it is owed as good
 abbrev pub dueSent : List ℕ → ℕ → List ℕ

@@ -39,7 +39,5 @@ abbrev pub inStepAt : List ℕ → ℕ → ℕ → ℕ → Bool
 inStepAt cells t r from = talksAt cells t && listensAt cells r from && agreeAt cells t r
 
 -- cells are words of sixteen bits
-pub record Sixteen (cells : List ℕ) (t : ℕ) : Type 0 where
-  pub control : cell cells (t + 5) < 65536
-  pub status : cell cells (t + 6) < 65536
-  pub crc : cell cells (t + 7) < 65536
+abbrev pub Sixteen : List ℕ → Type 0
+Sixteen cells = (place : ℕ) → cell cells place < 65536

@@ -11,7 +11,7 @@ ghost use Rattle.plain_slices.specs.Heads.{wordSent, wordStored, dueSent
 // ---- a word
 
 pub fn send_word(cells: &mut [u16], t: usize, crc: u16)
-    requires { ⌜ (t + 73 ≤ length (now cells)) × (1 ≤ cell (now cells) t) ⌝ }
+    requires { ⌜ (t + 74 ≤ length (now cells)) × (1 ≤ cell (now cells) t) ⌝ }
     requires { ⌜ (cell (now cells) (t + 1) < 128) × (cell (now cells) (t + 6) < 32768) ⌝ }
     ensures { λ _. ⌜ now (cells .exit) ≡ wordSent (now (cells .entry)) t crc ⌝ }
 {
@@ -23,7 +23,7 @@ pub fn send_word(cells: &mut [u16], t: usize, crc: u16)
 }
 
 pub fn store_word(cells: &mut [u16], r: usize, word: u16, crc: u16)
-    requires { ⌜ (r + 72 ≤ length (now cells)) × (cell (now cells) r < 64) ⌝ }
+    requires { ⌜ (r + 73 ≤ length (now cells)) × (cell (now cells) r < 64) ⌝ }
     requires { ⌜ (cell (now cells) (r + 1) < 128) × (cell (now cells) (r + 6) < 512) ⌝ }
     ensures { λ _. ⌜ now (cells .exit) ≡ wordStored (now (cells .entry)) r word crc ⌝ }
 {
@@ -37,7 +37,7 @@ pub fn store_word(cells: &mut [u16], r: usize, word: u16, crc: u16)
 // ---- a due CRC
 
 pub fn send_due(cells: &mut [u16], t: usize)
-    requires { ⌜ (t + 72 ≤ length (now cells)) × (cell (now cells) (t + 6) < 32768) ⌝ }
+    requires { ⌜ (t + 73 ≤ length (now cells)) × (cell (now cells) (t + 6) < 32768) ⌝ }
     ensures { λ _. ⌜ now (cells .exit) ≡ dueSent (now (cells .entry)) t ⌝ }
 {
     let held = cells[t];
@@ -49,7 +49,7 @@ pub fn send_due(cells: &mut [u16], t: usize)
 }
 
 pub fn take_due(cells: &mut [u16], r: usize)
-    requires { ⌜ (r + 72 ≤ length (now cells)) × (cell (now cells) (r + 6) < 512) ⌝ }
+    requires { ⌜ (r + 73 ≤ length (now cells)) × (cell (now cells) (r + 6) < 512) ⌝ }
     ensures { λ _. ⌜ now (cells .exit) ≡ dueTaken (now (cells .entry)) r ⌝ }
 {
     let held = cells[r];
@@ -63,7 +63,7 @@ pub fn take_due(cells: &mut [u16], r: usize)
 // ---- its good verdict
 
 pub fn restart_sender(cells: &mut [u16], t: usize)
-    requires { ⌜ t + 72 ≤ length (now cells) ⌝ }
+    requires { ⌜ t + 73 ≤ length (now cells) ⌝ }
     ensures { λ _. ⌜ now (cells .exit) ≡ senderRestarted (now (cells .entry)) t ⌝ }
 {
     let held = cells[t];
@@ -73,7 +73,7 @@ pub fn restart_sender(cells: &mut [u16], t: usize)
 }
 
 pub fn restart_receiver(cells: &mut [u16], r: usize)
-    requires { ⌜ (r + 72 ≤ length (now cells)) × (320 ≤ cell (now cells) (r + 6)) × (cell (now cells) (r + 6) < 512) ⌝ }
+    requires { ⌜ (r + 73 ≤ length (now cells)) × (320 ≤ cell (now cells) (r + 6)) × (cell (now cells) (r + 6) < 512) ⌝ }
     ensures { λ _. ⌜ now (cells .exit) ≡ receiverRestarted (now (cells .entry)) r ⌝ }
 {
     let held = cells[r];

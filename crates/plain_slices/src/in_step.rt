@@ -9,7 +9,7 @@ ghost use Rattle.plain_slices.specs.Tests.{talksBy, talksAt, listensBy, 
 // Words held, the latched destination, the two halves of the load; ST TXM; BUSY, which here is that the channel is open; and neither
 // DTIRDY, which is ending, nor an error bit.
 fn talks(held: u16, own: u16, low: u16, count: u16, control: u16, status: u16) -> bool
-    ensures { λ x. ⌜ (x ≡ talksBy held own low count control status) × (control < 65536) × (status < 65536) ⌝ }
+    ensures { λ x. ⌜ x ≡ talksBy held own low count control status ⌝ }
 {
     (1 <= held)
         & (held <= 64)
@@ -38,8 +38,8 @@ fn listens(held: u16, own: u16, low: u16, count: u16, control: u16, status: u16,
 }
 
 fn talks_at(cells: &[u16], t: usize) -> bool
-    requires { ⌜ t + 72 ≤ length (now cells) ⌝ }
-    ensures { λ x. ⌜ (x ≡ talksAt (now (cells .entry)) t) × (cell (now (cells .entry)) (t + 5) < 65536) × (cell (now (cells .entry)) (t + 6) < 65536) ⌝ }
+    requires { ⌜ t + 73 ≤ length (now cells) ⌝ }
+    ensures { λ x. ⌜ (x ≡ talksAt (now (cells .entry)) t) × Sixteen (now (cells .entry)) ⌝ }
 {
     talks(
         cells[t],
@@ -52,7 +52,7 @@ fn talks_at(cells: &[u16], t: usize) -> bool
 }
 
 fn listens_at(cells: &[u16], r: usize, from: u16) -> bool
-    requires { ⌜ r + 72 ≤ length (now cells) ⌝ }
+    requires { ⌜ r + 73 ≤ length (now cells) ⌝ }
     ensures { λ x. ⌜ x ≡ listensAt (now (cells .entry)) r from ⌝ }
 {
     listens(
@@ -68,22 +68,22 @@ fn listens_at(cells: &[u16], r: usize, from: u16) -> bool
 
 // The same count of 128 and the same CRC.
 fn agree(sent: u16, stored: u16, crc: u16, other: u16) -> bool
-    ensures { λ x. ⌜ (x ≡ agreeBy sent stored crc other) × (crc < 65536) ⌝ }
+    ensures { λ x. ⌜ x ≡ agreeBy sent stored crc other ⌝ }
 {
     (sent == stored) & (crc == other)
 }
 
 fn agree_at(cells: &[u16], t: usize, r: usize) -> bool
-    requires { ⌜ (t + 72 ≤ length (now cells)) × (r + 72 ≤ length (now cells)) ⌝ }
-    ensures { λ x. ⌜ (x ≡ agreeAt (now (cells .entry)) t r) × (cell (now (cells .entry)) (t + 7) < 65536) ⌝ }
+    requires { ⌜ (t + 73 ≤ length (now cells)) × (r + 73 ≤ length (now cells)) ⌝ }
+    ensures { λ x. ⌜ x ≡ agreeAt (now (cells .entry)) t r ⌝ }
 {
     agree(cells[t + 1], cells[r + 1], cells[t + 7], cells[r + 7])
 }
 
 // Whether the windows at `t` and `r` are those of two ends in step.
 pub fn in_step(cells: &[u16], t: usize, r: usize, from: u16) -> bool
-    requires { ⌜ (t + 72 ≤ length (now cells)) × (r + 72 ≤ length (now cells)) ⌝ }
-    ensures { λ x. ⌜ (x ≡ inStepAt (now (cells .entry)) t r from) × Sixteen (now (cells .entry)) t ⌝ }
+    requires { ⌜ (t + 73 ≤ length (now cells)) × (r + 73 ≤ length (now cells)) ⌝ }
+    ensures { λ x. ⌜ (x ≡ inStepAt (now (cells .entry)) t r from) × Sixteen (now (cells .entry)) ⌝ }
 {
     talks_at(cells, t) & listens_at(cells, r, from) & agree_at(cells, t, r)
 }

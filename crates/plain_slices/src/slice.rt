@@ -22,7 +22,7 @@ fn carry_word(cells: &mut [u16], t: usize, r: usize)
     requires { ⌜ ((1 ≤ cell (now cells) t) × (cell (now cells) (t + 1) < 128) × (cell (now cells) (t + 6) < 32768)) × ((cell (now cells) r < 64) × (cell (now cells) (r + 1) < 128) × (cell (now cells) (r + 6) < 512)) ⌝ }
     ensures { λ _. ⌜ now (cells .exit) ≡ wordCarried (now (cells .entry)) t r ⌝ }
 {
-    let word = cells[t + 8];
+    let word = cells[t + 9];
     let crc = crc_with_word(cells[t + 7], word);
     send_word(cells, t, crc);
     store_word(cells, r, word, crc);
@@ -51,7 +51,7 @@ fn carry_verdict(cells: &mut [u16], t: usize, r: usize)
 // Fewer than 128 words since the last CRC: a word, if there is room for it.
 fn try_word(cells: &mut [u16], t: usize, r: usize, from: u16) -> u16
     requires { ⌜ Placed (now cells) t r ⌝ }
-    requires { ⌜ (inStepAt (now cells) t r from ≡ true) × Sixteen (now cells) t × (cell (now cells) (t + 1) < 128) ⌝ }
+    requires { ⌜ (inStepAt (now cells) t r from ≡ true) × Sixteen (now cells) × (cell (now cells) (t + 1) < 128) ⌝ }
     ensures { λ b. ⌜ Tried (now (cells .entry)) t r from b (now (cells .exit)) ⌝ }
 {
     if cells[t + 6] >= 32768 {
@@ -67,7 +67,7 @@ fn try_word(cells: &mut [u16], t: usize, r: usize, from: u16) -> u16
 // 128 words, and no verdict awaited: the due CRC, if none is owed and no good one stands from before.
 fn try_due(cells: &mut [u16], t: usize, r: usize, from: u16) -> u16
     requires { ⌜ Placed (now cells) t r ⌝ }
-    requires { ⌜ (inStepAt (now cells) t r from ≡ true) × Sixteen (now cells) t × (cell (now cells) (t + 1) ≡ 128) × (cell (now cells) (t + 6) < 32768) ⌝ }
+    requires { ⌜ (inStepAt (now cells) t r from ≡ true) × Sixteen (now cells) × (cell (now cells) (t + 1) ≡ 128) × (cell (now cells) (t + 6) < 32768) ⌝ }
     ensures { λ b. ⌜ Tried (now (cells .entry)) t r from b (now (cells .exit)) ⌝ }
 {
     if cells[r + 6] / 64 % 2 != 0 {
@@ -83,7 +83,7 @@ fn try_due(cells: &mut [u16], t: usize, r: usize, from: u16) -> u16
 // A verdict awaited: a good one, if that is owed.
 fn try_verdict(cells: &mut [u16], t: usize, r: usize, from: u16) -> u16
     requires { ⌜ Placed (now cells) t r ⌝ }
-    requires { ⌜ (inStepAt (now cells) t r from ≡ true) × Sixteen (now cells) t × (cell (now cells) (t + 1) ≡ 128) × (32768 ≤ cell (now cells) (t + 6)) ⌝ }
+    requires { ⌜ (inStepAt (now cells) t r from ≡ true) × Sixteen (now cells) × (cell (now cells) (t + 1) ≡ 128) × (32768 ≤ cell (now cells) (t + 6)) ⌝ }
     ensures { λ b. ⌜ Tried (now (cells .entry)) t r from b (now (cells .exit)) ⌝ }
 {
     if cells[r + 6] / 64 % 2 != 1 {
@@ -98,7 +98,7 @@ fn try_verdict(cells: &mut [u16], t: usize, r: usize, from: u16) -> u16
 
 // By what has been sent since the last CRC.
 fn carry_in_step(cells: &mut [u16], t: usize, r: usize, from: u16) -> u16
-    requires { ⌜ Placed (now cells) t r × (inStepAt (now cells) t r from ≡ true) × Sixteen (now cells) t ⌝ }
+    requires { ⌜ Placed (now cells) t r × (inStepAt (now cells) t r from ≡ true) × Sixteen (now cells) ⌝ }
     ensures { λ b. ⌜ Tried (now (cells .entry)) t r from b (now (cells .exit)) ⌝ }
 {
     if cells[t + 1] < 128 {

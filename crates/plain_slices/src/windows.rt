@@ -19,7 +19,7 @@ fn put_head(
     status: u16,
     crc: u16,
 )
-    requires { ⌜ at + 72 ≤ length (now cells) ⌝ }
+    requires { ⌜ at + 73 ≤ length (now cells) ⌝ }
     ensures { λ _. ⌜ now (cells .exit) ≡ splice (now (cells .entry)) at (headed (now (cells .entry)) at held block control status crc []) ⌝ }
 {
     let head = [
@@ -31,6 +31,7 @@ fn put_head(
         control,
         status,
         crc,
+        cells[at + 8],
     ];
     put(cells, at, &head);
 }
@@ -45,11 +46,11 @@ pub fn put_without_oldest(
     status: u16,
     crc: u16,
 )
-    requires { ⌜ at + 73 ≤ length (now cells) ⌝ }
+    requires { ⌜ at + 74 ≤ length (now cells) ⌝ }
     ensures { λ _. ⌜ now (cells .exit) ≡ written (now (cells .entry)) at held block control status crc shifted ⌝ }
 {
     put_head(cells, at, held, block, control, status, crc);
-    shift(cells, at + 8);
+    shift(cells, at + 9);
 }
 
 // A word more, behind those held before.
@@ -63,11 +64,11 @@ pub fn put_with_word(
     crc: u16,
     word: u16,
 )
-    requires { ⌜ (at + 72 ≤ length (now cells)) × (held < 64) ⌝ }
+    requires { ⌜ (at + 73 ≤ length (now cells)) × (held < 64) ⌝ }
     ensures { λ _. ⌜ now (cells .exit) ≡ written (now (cells .entry)) at (held + 1) block control status crc (λ (l : List ℕ). set l held word) ⌝ }
 {
     put_head(cells, at, held + 1, block, control, status, crc);
-    let back = at + 8 + held as usize;
+    let back = at + 9 + held as usize;
     cells[back] = word;
 }
 
@@ -81,7 +82,7 @@ pub fn put_as_held(
     status: u16,
     crc: u16,
 )
-    requires { ⌜ at + 72 ≤ length (now cells) ⌝ }
+    requires { ⌜ at + 73 ≤ length (now cells) ⌝ }
     ensures { λ _. ⌜ now (cells .exit) ≡ written (now (cells .entry)) at held block control status crc (λ (l : List ℕ). l) ⌝ }
 {
     put_head(cells, at, held, block, control, status, crc);

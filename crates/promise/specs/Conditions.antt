@@ -12,7 +12,7 @@ use Rattle.outcomes.specs.Unchanged.{leavesAll}
 use Rattle.transmitter_registers.specs.Writing.{initialises}
 use Rattle.promise.specs.Kinds.{kindOf, own}
 use Rattle.promise.specs.Opening.{Parties}
-use Rattle.promise.specs.World.{World, Event, fit, write, writeByte, read, slice, move, period, reset, level, hostWrite, step, numberOf}
+use Rattle.promise.specs.World.{World, Event, fit, write, writeByte, read, slice, move, period, reset, level, serial, hostWrite, step, numberOf}
 
 -- ---- T's slices
 
@@ -68,6 +68,7 @@ Permitted p m (period unit) w = Elsewhere p unit
 -- "no .. reset at the master"
 Permitted p m (reset unit) w = Elsewhere p unit × (unit ≡ p .master → ⊥)
 Permitted p m (level unit side) w = Unit {0}
+Permitted p m (serial unit side) w = Unit {0}
 Permitted p m (hostWrite unit place word) w = HostWrite p m unit place word w
 
 -- a call whose number says "unchanged" is free: it is a call that is not done

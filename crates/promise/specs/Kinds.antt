@@ -8,7 +8,7 @@ use Rattle.laws.specs.Pick.{pick}
 use Rattle.pcl.specs.Link.{sliceCall}
 use Rattle.pcl.specs.Numbers.{sliceNumber, sliceValue, addressOf}
 use Rattle.pcl.specs.declared.answers.SliceCall.{SliceCall}
-use Rattle.promise.specs.World.{World, Event, fit, write, writeByte, read, slice, move, period, reset, level, hostWrite, step}
+use Rattle.promise.specs.World.{World, Event, fit, write, writeByte, read, slice, move, period, reset, level, serial, hostWrite, step}
 
 pub data Kind : Type 0 where
   own other quiet : Kind
@@ -29,6 +29,7 @@ kindOf address (move unit side) w = quiet
 kindOf address (period unit) w = quiet
 kindOf address (reset unit) w = quiet
 kindOf address (level unit side) w = quiet
+kindOf address (serial unit side) w = quiet
 kindOf address (hostWrite unit place word) w = quiet
 
 -- ---- of a run

@@ -51,10 +51,10 @@ module _ (start : World) where
   -- ---- what holds before the success, and from it on: at both ends, and as the hosts see it
 
   abbrev pub NotYet : World → Type 0
-  NotYet w = Underway (endsOf parties w) × Unreported parties w
+  NotYet w = Underway (endsOf parties w) × Unreported parties (message .serial) w
 
   abbrev pub Succeeded : World → Type 0
-  Succeeded w = Delivered message (endsOf parties w) × Reported parties w
+  Succeeded w = Delivered message (endsOf parties w) × Reported parties (message .serial) w
 
   -- Demand 3 (README.md): the message succeeds at both ends on exactly its transmitter's slice n - 1 + 2 x (n/128 rounded up) after the
   -- opening, not before it and from it on, within L times as many slices; and the receiving memory then holds exactly those words and is

@@ -8,8 +8,8 @@ use lib.ListN.{set}
 use Rattle.laws.specs.Pick.{pick}
 use Rattle.pcl.specs.Calls.{readCall, writeCall, byteCall, resetCall, periodCall}
 use Rattle.pcl.specs.Link.{fitCall, sliceCall}
-use Rattle.pcl.specs.Numbers.{readCallNumber, writeCallNumber, doneNumber, fitNumber, sliceNumber, moveCallNumber, levelNumber}
-use Rattle.pcl.specs.Sides.{moveCall, levelCall}
+use Rattle.pcl.specs.Numbers.{readCallNumber, writeCallNumber, doneNumber, fitNumber, sliceNumber, moveCallNumber, levelNumber, serialNumber}
+use Rattle.pcl.specs.Sides.{moveCall, levelCall, serialCall}
 use Rattle.pcl.specs.declared.answers.MoveCall.{MoveCall}
 
 pub record World : Type 0 where
@@ -17,7 +17,7 @@ pub record World : Type 0 where
   -- of each unit, by its number
   pub memory : ℕ → List ℕ
 
--- Document 01, The link, "Calls", and the host's own write of a word in a unit's memory
+-- Document 01, The link, "Calls", with the one that document 02, No. 6, adds, and the host's own write of a word in a unit's memory
 pub data Event : Type 0 where
   -- the set-up
   fit : List ℕ → Event
@@ -32,6 +32,7 @@ pub data Event : Type 0 where
   period : ℕ → Event
   reset : ℕ → Event
   level : ℕ → ℕ → Event
+  serial : ℕ → ℕ → Event
   -- unit, place in its memory, word
   hostWrite : ℕ → ℕ → ℕ → Event
 
@@ -57,6 +58,7 @@ step (move unit side) w = movedBy w unit (moveCall (w .cells) (w .memory unit) u
 step (period unit) w = withCells w (periodCall (w .cells) unit .1)
 step (reset unit) w = withCells w (resetCall (w .cells) unit .1)
 step (level unit side) w = w
+step (serial unit side) w = w
 step (hostWrite unit place word) w =
     record { cells = w .cells; memory = withMemory (w .memory) unit (set (w .memory unit) place word) }
 
@@ -77,4 +79,5 @@ numberOf (move unit side) w = moveCallNumber (moveCall (w .cells) (w .memory uni
 numberOf (period unit) w = doneNumber (periodCall (w .cells) unit .0)
 numberOf (reset unit) w = doneNumber (resetCall (w .cells) unit .0)
 numberOf (level unit side) w = levelNumber (levelCall (w .cells) unit side)
+numberOf (serial unit side) w = serialNumber (serialCall (w .cells) unit side)
 numberOf (hostWrite unit place word) w = 0

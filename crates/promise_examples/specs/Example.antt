@@ -17,7 +17,7 @@ use Rattle.promise.specs.Statement.{wordsSent}
 use Rattle.promise.specs.World.{World, Event, fit, write, writeByte, slice, move, hostWrite, run}
 
 abbrev blank : World
-blank = record { cells = replicate 216 0; memory = λ k. replicate 6 0 }
+blank = record { cells = replicate 218 0; memory = λ k. replicate 6 0 }
 
 -- one unit, its addresses 1 and 1, its switch 2, with six words of memory; 7 and 9 in words 1 and 2; MASTER and AUT ADR; a load of two
 -- words from word 1 on, ST TXM, SND WD, TX NPR and IE to receiver 1; one of them is moved; a load of two words to word 3, RCV DAT,
@@ -43,9 +43,9 @@ start =
     record {
       cells =
           (1 ∷ 1 ∷ 0 ∷ 0 ∷ 0 ∷ 5 ∷ [])
-          ++ (1 ∷ 0 ∷ 0 ∷ 2 ∷ 32767 ∷ 24899 ∷ 0 ∷ 0 ∷ 7 ∷ [])
+          ++ (1 ∷ 0 ∷ 0 ∷ 2 ∷ 32767 ∷ 24899 ∷ 0 ∷ 0 ∷ 0 ∷ 7 ∷ [])
           ++ replicate 63 0
-          ++ (0 ∷ 0 ∷ 0 ∷ 3 ∷ 32766 ∷ 24643 ∷ 0 ∷ 0 ∷ [])
+          ++ (0 ∷ 0 ∷ 0 ∷ 3 ∷ 32766 ∷ 24643 ∷ 0 ∷ 0 ∷ 0 ∷ [])
           ++ replicate 64 0
           ++ (0 ∷ 1089 ∷ [])
           ++ replicate 64 0;

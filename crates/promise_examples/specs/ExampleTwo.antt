@@ -32,7 +32,7 @@ abbrev memories : ℕ → List ℕ
 memories k = pick (eqb k 1) (counting 300 1) (replicate 300 0)
 
 abbrev blank : World
-blank = record { cells = replicate 644 0; memory = memories }
+blank = record { cells = replicate 650 0; memory = memories }
 
 -- three units; unit 2 is master. Unit 1 sends 130 words, from word 0 on, to unit 2's receiver, which stores them from word 150 on; one of
 -- them is moved, and a slice is for address 2.
@@ -53,23 +53,23 @@ setting =
 -- Then every cell of unit 0 is overwritten: its silos are full, its transmitter and its receiver are open, and every bit stands. Each search
 -- for a unit comes to it first. With 0 or 1 in these cells it would have T's address or R's, and there would be no opening.
 abbrev damaged : World → World
-damaged w = withCells w (splice (w .cells) (unitPlace 0) (replicate 214 65535))
+damaged w = withCells w (splice (w .cells) (unitPlace 0) (replicate 216 65535))
 
 abbrev start : World
 start =
     record {
       cells =
           (3 ∷ 3 ∷ [])
-          ++ replicate 214 65535
+          ++ replicate 216 65535
           ++ (0 ∷ 0 ∷ 0 ∷ 299 ∷ [])
-          ++ (1 ∷ 0 ∷ 0 ∷ 1 ∷ 32639 ∷ 25091 ∷ 0 ∷ 0 ∷ 1 ∷ [])
+          ++ (1 ∷ 0 ∷ 0 ∷ 1 ∷ 32639 ∷ 25091 ∷ 0 ∷ 0 ∷ 0 ∷ 1 ∷ [])
           ++ replicate 63 0
-          ++ replicate 72 0
+          ++ replicate 73 0
           ++ (0 ∷ 1090 ∷ [])
           ++ replicate 64 0
           ++ (1 ∷ 1 ∷ 0 ∷ 299 ∷ [])
-          ++ replicate 72 0
-          ++ (0 ∷ 0 ∷ 0 ∷ 150 ∷ 32638 ∷ 24579 ∷ 0 ∷ 0 ∷ [])
+          ++ replicate 73 0
+          ++ (0 ∷ 0 ∷ 0 ∷ 150 ∷ 32638 ∷ 24579 ∷ 0 ∷ 0 ∷ 0 ∷ [])
           ++ replicate 64 0
           ++ (0 ∷ 1089 ∷ [])
           ++ replicate 64 0;
@@ -160,9 +160,9 @@ events = times 63 (move 1 0 ∷ []) ++ times 133 (move 1 0 ∷ move 2 1 ∷ slic
 
 -- R's memory, and unit 0's cells
 abbrev leftIn : World → List ℕ × List ℕ
-leftIn w = (w .memory 2, window (w .cells) (unitPlace 0) 214)
+leftIn w = (w .memory 2, window (w .cells) (unitPlace 0) 216)
 
 -- the words are there, and no cell of unit 0 has changed
-left : leftIn (after start events) ≡ (received, replicate 214 65535)
+left : leftIn (after start events) ≡ (received, replicate 216 65535)
 unfolding firstOf inRange ones crcWord crcBits
 left = refl

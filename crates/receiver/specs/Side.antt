@@ -2,7 +2,7 @@
 -- Assumes nothing.
 use mathlib.Core.Bool.{Bool, true, false, not, _||_}
 use mathlib.Core.Path.{_≡_}
-use Prim.Native.Nat.{_<_}
+use Prim.Native.Nat.{ℕ, _<_}
 use Rattle.ends.specs.Ends as E
 use Rattle.ends.specs.Ends.{noEnd}
 use Rattle.silos.specs.Silo.{isEmpty, hasRoom}
@@ -21,7 +21,7 @@ pub record Within (r : Receiver) : Type 0 where
   pub truncated : r .channel .truncated ≡ true → r .end .opened ≡ true
   pub marked : r .end .mark ≡ true → r .end .opened ≡ true
 
--- ---- "Fit gives every side its initial state": RC INIT gives the same, with no exception (reading 10)
+-- ---- "Fit gives every side its initial state": RC INIT gives the same (reading 10), but for the serial (document 02, No. 6)
 
 abbrev pub noCommands : Commands
 noCommands = record { receiveData = false; receiveWord = false }
@@ -47,16 +47,20 @@ noOutcome = record { rejectComplete = false; success = false }
 abbrev pub noChannel : Channel
 noChannel = record { owed = false; good = false; badParity = false; truncated = false }
 
-abbrev pub initial : Receiver
-initial =
+abbrev pub initial : ℕ → Receiver
+initial serial =
     record {
-      end = noEnd;
+      end = noEnd serial;
       commands = noCommands;
       modes = noModes;
       faults = noFaults;
       outcome = noOutcome;
       channel = noChannel;
     }
+
+-- RC INIT and reset: document 02, No. 6, "kept after closing. Only a new fit resets it"
+abbrev pub initialised : Receiver → Receiver
+initialised r = initial (r .end .serial)
 
 -- ---- computed bits
 

@@ -54,12 +54,12 @@ pub struct Receiver {
     pub channel: Channel,
 }
 
-// What fit, RC INIT and reset give.
-pub fn start() -> Receiver
-    ensures { λ x. ⌜ x ≡ initial ⌝ }
+// What fit, RC INIT and reset give, with the serial that fit makes 0 and the others keep.
+pub fn start(serial: u16) -> Receiver
+    ensures { λ x. ⌜ x ≡ initial serial ⌝ }
 {
     Receiver {
-        end: End::none(),
+        end: End::none(serial),
         commands: Commands {
             receiveData: false,
             receiveWord: false,

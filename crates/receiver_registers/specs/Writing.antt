@@ -16,7 +16,7 @@ use Rattle.receiver.specs.Bits.{commandsIn, modesIn, faultsIn, outcomeIn}
 use Rattle.receiver.specs.Fields.{withSender, withNonexistentLocation}
 use Rattle.receiver.specs.Groups.{withLoad, withShown, withCommands, withModes, withFaults, withOutcome}
 use Rattle.receiver.specs.Requests.{requested, settled}
-use Rattle.receiver.specs.Side.{initial, hasError}
+use Rattle.receiver.specs.Side.{initialised, hasError}
 use Rattle.receiver.specs.declared.side.Faults.{Faults}
 use Rattle.receiver.specs.declared.side.Modes.{Modes}
 use Rattle.receiver.specs.declared.side.Receiver.{Receiver}
@@ -34,10 +34,11 @@ abbrev pub modesWritten : Modes → ℕ → Modes
 modesWritten before word = withSender (modesIn word) (before .sender)
 
 -- "TX INIT or RC INIT in a write gives that side its initial state, closing only its own side of a channel; the rest of the write is
--- ignored." RC INIT clears RCR 8 to 12 too (reading 10). A write without it: "Read-only bits ignore writes."
+-- ignored." RC INIT clears RCR 8 to 12 too (reading 10), and keeps the serial (document 02, No. 6). A write without it: "Read-only bits
+-- ignore writes."
 abbrev pub controlWritten : Receiver → ℕ → Receiver
 controlWritten r word =
-    pick (initialises word) initial
+    pick (initialises word) (initialised r)
     (settled
     (withModes (withCommands (withLoad r (extensionLoaded (r .end .load) (bits word RCR.EA16 2))) (commandsIn word)) (modesWritten (r .modes) word)))
 

@@ -28,12 +28,12 @@ fn modes_written(before: Modes, word: u16) -> Modes
     modes
 }
 
-// RCR. RC INIT gives the initial state, and the rest of the write is ignored.
+// RCR. RC INIT gives the initial state but for the serial, and the rest of the write is ignored.
 pub fn write_control(r: Receiver, word: u16) -> Receiver
     ensures { λ x. ⌜ x ≡ controlWritten r word ⌝ }
 {
     if asks_init(word) {
-        return start();
+        return start(r.end.serial);
     }
     let modes = r.modes;
     let mut end = r.end;

@@ -1,8 +1,10 @@
--- Document 01, One slice: whether T acts, and "A sent, first that fits"; document 02, No. 1: the mark of an opening word.
+-- Document 01, One slice: whether T acts, and "A sent, first that fits"; document 02, No. 1: the mark of an opening word, and No. 6: its
+-- serial.
 -- Assumes nothing.
 use mathlib.Core.Bool.{Bool, true, false, not, _&&_, _||_}
 use Prim.Native.Nat.{ℕ}
 use lib.Dec.{eqb}
+use Rattle.ends.specs.Ends.{raised}
 use Rattle.laws.specs.Pick.{pick}
 use Rattle.silos.specs.Silo.{isEmpty, oldest}
 use Rattle.transmitter.specs.Side.{hasError}
@@ -91,5 +93,7 @@ isOpening Choice.DueCrc = false
 isOpening Choice.Word = false
 isOpening Choice.Null = false
 
+-- Beside all that T sends stands the serial that its next opening has (No. 6): it is "copied to the receiver with the opening word", and of
+-- nothing else does R take it (`answering`, `opens`).
 abbrev pub sentBy : Transmitter → Choice → Sent
-sentBy t choice = sentAs (codeOf choice) (wordOf t choice) (isOpening choice)
+sentBy t choice = sentAs (codeOf choice) (wordOf t choice) (isOpening choice) (raised (t .end .serial))

@@ -49,9 +49,11 @@ abbrev pub wordAccepted : Transmitter → Transmitter
 wordAccepted t = pick (t .commands .startTransmission) (counted t) (succeeded (counted t))
 
 -- "opens a closed T"; "The destination is latched at opening" (reading 29); "Opening clears TBS BSY"; "At opening each end starts CRC,
--- count of 128 and verdict .. afresh"
+-- count of 128 and verdict .. afresh"; "a 16-bit serial that the transmitter side raises by one at each opening" (document 02, No. 6)
 abbrev openTo : ℕ → Channel
 openTo destination = record { ending = false; awaiting = false; destination = destination }
 
 abbrev pub opening : Transmitter → Transmitter
-opening t = withOutcome (withChannel (withEnd t (E.opening (t .end))) (openTo (t .modes .destination))) (withBusBusy (t .outcome) false)
+opening t =
+    withOutcome (withChannel (withEnd t (E.opening (t .end) (E.raised (t .end .serial)))) (openTo (t .modes .destination)))
+    (withBusBusy (t .outcome) false)

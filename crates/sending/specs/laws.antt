@@ -1,2 +1,3 @@
 pub mod Keeps
+pub mod SerialKept
 pub mod Talking

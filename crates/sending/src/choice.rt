@@ -1,4 +1,5 @@
 // What a transmitter sends in its slice: first that fits.
+use ends::raise;
 use transmitter::side::Transmitter;
 use transmitter::side::has_error;
 use words::lines::Sent;
@@ -151,8 +152,14 @@ fn is_opening(choice: Choice) -> bool
     }
 }
 
+// With an opening word goes the serial of the opening.
 pub fn make_sent(t: Transmitter, choice: Choice) -> Sent
     ensures { λ r. ⌜ r ≡ sentBy t choice ⌝ }
 {
-    send(code(choice), word(t, choice), is_opening(choice))
+    send(
+        code(choice),
+        word(t, choice),
+        is_opening(choice),
+        raise(t.end.serial),
+    )
 }

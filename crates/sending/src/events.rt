@@ -1,4 +1,5 @@
 // What can happen to a transmitter in its slice.
+use ends::raise;
 use transmitter::requests::request;
 use transmitter::side::Transmitter;
 use words::codes::Codes;
@@ -97,14 +98,16 @@ pub fn accept_word(t: Transmitter) -> Transmitter
     succeed(next)
 }
 
-// The channel opens with the destination of the moment, everything afresh, and TBS BSY is cleared.
+// The channel opens with the destination of the moment, everything afresh, the serial is raised by one, and TBS BSY is cleared.
 pub fn open_channel(t: Transmitter) -> Transmitter
     ensures { λ r. ⌜ r ≡ opening t ⌝ }
 {
     let destination = t.modes.destination;
+    let serial = raise(t.end.serial);
     let mut next = restart(t);
     next.outcome.busBusy = false;
     next.end.opened = true;
+    next.end.serial = serial;
     next.channel.ending = false;
     next.channel.destination = destination;
     next

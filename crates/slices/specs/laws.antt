@@ -1,2 +1,3 @@
 pub mod InStep
 pub mod Keeps
+pub mod Openings

@@ -2,7 +2,7 @@
 -- Assumes nothing.
 use mathlib.Core.Bool.{Bool, true, false, not, _&&_, _||_}
 use mathlib.Core.Path.{_≡_}
-use Prim.Native.Nat.{_<_}
+use Prim.Native.Nat.{ℕ, _<_}
 use Rattle.ends.specs.Ends as E
 use Rattle.ends.specs.Ends.{noEnd}
 use Rattle.silos.specs.Silo.{hasRoom}
@@ -27,7 +27,7 @@ pub record Within (t : Transmitter) : Type 0 where
   pub awaited : t .channel .awaiting ≡ true → t .end .block ≡ 128
   pub marked : t .end .mark ≡ true → isBusy t ≡ true
 
--- ---- "Fit gives every side its initial state": TX INIT gives the same, with no exception (reading 10)
+-- ---- "Fit gives every side its initial state": TX INIT gives the same (reading 10), but for the serial (document 02, No. 6)
 
 abbrev pub noCommands : Commands
 noCommands = record { startTransmission = false; sendWord = false }
@@ -53,16 +53,20 @@ noOutcome = record { busBusy = false; softwareReject = false; success = false }
 abbrev pub noChannel : Channel
 noChannel = record { ending = false; awaiting = false; destination = 0 }
 
-abbrev pub initial : Transmitter
-initial =
+abbrev pub initial : ℕ → Transmitter
+initial serial =
     record {
-      end = noEnd;
+      end = noEnd serial;
       commands = noCommands;
       modes = noModes;
       faults = noFaults;
       outcome = noOutcome;
       channel = noChannel;
     }
+
+-- TX INIT and reset: document 02, No. 6, "kept after closing. Only a new fit resets it"
+abbrev pub initialised : Transmitter → Transmitter
+initialised t = initial (t .end .serial)
 
 -- ---- computed bits
 

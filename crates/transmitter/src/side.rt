@@ -53,12 +53,12 @@ pub struct Transmitter {
     pub channel: Channel,
 }
 
-// What fit, TX INIT and reset give.
-pub fn start() -> Transmitter
-    ensures { λ r. ⌜ r ≡ initial ⌝ }
+// What fit, TX INIT and reset give, with the serial that fit makes 0 and the others keep.
+pub fn start(serial: u16) -> Transmitter
+    ensures { λ r. ⌜ r ≡ initial serial ⌝ }
 {
     Transmitter {
-        end: End::none(),
+        end: End::none(serial),
         commands: Commands {
             startTransmission: false,
             sendWord: false,

@@ -7,7 +7,7 @@ use Rattle.laws.specs.Pick.{pick}
 use Rattle.pcl.specs.Link.{sliceCall}
 use Rattle.pcl.specs.Numbers.{sliceNumber, sliceValue, addressOf}
 use Rattle.pcl.specs.declared.answers.SliceCall.{SliceCall}
-use Rattle.promise.specs.World.{World, Event, fit, write, writeByte, read, slice, move, period, reset, level, hostWrite, step}
+use Rattle.promise.specs.World.{World, Event, fit, write, writeByte, read, slice, move, period, reset, level, serial, hostWrite, step}
 
 -- a slice call answered 0 has one
 abbrev pub answered : SliceCall → List ℕ
@@ -23,6 +23,7 @@ addressIn (move unit side) w = []
 addressIn (period unit) w = []
 addressIn (reset unit) w = []
 addressIn (level unit side) w = []
+addressIn (serial unit side) w = []
 addressIn (hostWrite unit place word) w = []
 
 -- one after the other
@@ -42,6 +43,7 @@ sliceIn (move unit side) = 0
 sliceIn (period unit) = 0
 sliceIn (reset unit) = 0
 sliceIn (level unit side) = 0
+sliceIn (serial unit side) = 0
 sliceIn (hostWrite unit place word) = 0
 
 unfoldable pub slicesIn : List Event → ℕ

@@ -19,7 +19,7 @@ use Rattle.turns.specs.Promise.{planned-goes}
 use Rattle.turns.specs.Round.{GoesRound}
 
 abbrev blank : World
-blank = record { cells = replicate 430 0; memory = λ k. [] }
+blank = record { cells = replicate 434 0; memory = λ k. [] }
 
 -- two units, with the addresses 1 and 2
 abbrev fitted : World

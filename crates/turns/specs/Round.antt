@@ -9,7 +9,7 @@ use Rattle.cells.specs.Layout.{holderIn}
 use Rattle.cells.specs.Ranges.{inRange}
 use Rattle.master.specs.Ring.{addressesIn}
 use Rattle.promise.specs.Conditions.{AtTMMR}
-use Rattle.promise.specs.World.{Event, fit, write, writeByte, read, slice, move, period, reset, level, hostWrite}
+use Rattle.promise.specs.World.{Event, fit, write, writeByte, read, slice, move, period, reset, level, serial, hostWrite}
 use Rattle.transmitter_registers.specs.Writing.{initialises}
 
 -- Document 01, The master section: "Then each slice takes the oldest address and returns it to the end."
@@ -38,6 +38,7 @@ Spares unit (move at side) = Unit {0}
 Spares unit (period at) = Unit {0}
 Spares unit (reset at) = at ≡ unit → ⊥
 Spares unit (level at side) = Unit {0}
+Spares unit (serial at side) = Unit {0}
 Spares unit (hostWrite at place word) = Unit {0}
 
 abbrev pub AllSpare : ℕ → List Event → Type 0

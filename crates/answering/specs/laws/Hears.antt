@@ -89,7 +89,7 @@ module _ (r : Receiver) (from : ℕ) (sent : Sent) (l : Listening r from) (later
 module _ (r : Receiver) (from : ℕ) (ready : Ready r) where
   -- A 10, the opening word
   pub hears-opening : (sent : Sent) → sent .opening ≡ true → sent .code ≡ 2 → goodParity (sent .word) (sent .parity) ≡ true
-      → answeredBy r from sent ≡ answering 3 (afterWord (opening r from) (sent .word))
+      → answeredBy r from sent ≡ answering 3 (afterWord (opening r from (sent .serial)) (sent .word))
   hears-opening sent first code good =
       let own : openWithAnother r from ≡ false = rw (ready .closed) in
       let fresh : reopening r sent ≡ false = rw (ready .closed) in

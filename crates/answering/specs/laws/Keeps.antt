@@ -4,12 +4,12 @@
 use mathlib.Core.Bool.{Bool, true, false, not, _&&_, _||_, true≢false, false≢true}
 use mathlib.Core.Logic.{_⊎_, inl, inr}
 use mathlib.Core.Path.{_≡_, refl, ap, ap₂, sym, _∙_}
-use Prim.Native.Nat.{ℕ, _<_}
+use Prim.Native.Nat.{ℕ, _^_, _<_}
 use native.Mathlib.Omega.{arith}
 use borrow.Author.Tests.{eq-eqb, eqb-false, not-false}
 use lib.Dec.{eqb, lit<, lit≤}
 use Rattle.ends.specs.Ends as E
-use Rattle.ends.specs.laws.EndKept.{silo-kept, shown-kept, restart-kept, count-kept}
+use Rattle.ends.specs.laws.EndKept.{silo-kept, shown-kept, restart-kept, count-kept, opening-kept}
 use Rattle.laws.specs.Pick.{past, here, either}
 use Rattle.receiver.specs.laws.Keeps.{within-requested}
 use Rattle.receiver.specs.Side.{Within, hasError, dataInReady, dataOutReady}
@@ -100,7 +100,7 @@ module _ (r : Receiver) (end : E.Within (r .end)) (sender : r .modes .sender < 3
       let kept : Within (wordKept r sent) = record { end = counted; sender = sender; truncated = truncated; marked = λ e. absurd (false≢true e) } in
       either Within (r .commands .receiveData) (λ e. kept) (λ e. within-requested (wordKept r sent) kept)
 
-module _ (r : Receiver) (h : Within r) (from : ℕ) (sent : Sent) (address : from < 32) (code : sent .code < 4) where
+module _ (r : Receiver) (h : Within r) (from : ℕ) (sent : Sent) (address : from < 32) (code : sent .code < 4) (serial : sent .serial < 2 ^ 16) where
   abbrev Kept : Rule → Type 0
   Kept rule = Within (answeredAs r from sent rule .side)
 
@@ -110,7 +110,8 @@ module _ (r : Receiver) (h : Within r) (from : ℕ) (sent : Sent) (address : fro
 
   -- a word is stored at the opening, or with fewer than 128 since the last CRC
   kept-opens : Kept Rule.Opens
-  kept-opens = stored (opening (showing r (sent .code) 3) from) (restart-kept (shows 3 (lit< tt))) address (λ e. refl) sent (lit< tt)
+  kept-opens =
+      stored (opening (showing r (sent .code) 3) from (sent .serial)) (opening-kept (shows 3 (lit< tt)) serial) address (λ e. refl) sent (lit< tt)
 
   kept-stores : eqb (r .end .block) 128 ≡ false → Kept Rule.Stores
   kept-stores e =

@@ -95,8 +95,8 @@ pub record Ready (r : Receiver) : Type 0 where
   pub room : hasRoom 64 (r .end .silo) ≡ true
 
 module _ (r : Receiver) (from : ℕ) (ready : Ready r) where
-  pub listening-opening : (word : ℕ) → Listening (afterWord (opening r from) word) from
-  listening-opening word =
+  pub listening-opening : (serial word : ℕ) → Listening (afterWord (opening r from serial) word) from
+  listening-opening serial word =
       record {
         opened = refl;
         sender = refl;

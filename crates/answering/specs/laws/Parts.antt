@@ -37,7 +37,7 @@ toldBy Rule.Null truncated = answered 1
 abbrev pub doneBy : Receiver → Receiver → ℕ → Sent → Rule → Receiver
 doneBy was r from sent Rule.Other = was
 doneBy was r from sent Rule.Reopened = closed (transmissionFailed r)
-doneBy was r from sent Rule.Opens = wordStored (opening r from) sent
+doneBy was r from sent Rule.Opens = wordStored (opening r from (sent .serial)) sent
 doneBy was r from sent Rule.Refuses = was
 doneBy was r from sent Rule.Faulted = closed r
 doneBy was r from sent Rule.BadParity = closed (parityFailed r)

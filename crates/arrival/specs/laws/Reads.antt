@@ -1,4 +1,4 @@
--- What receiving finds at a unit: what reads of RSR, RCR and RDBA give there. They leave every cell.
+-- What receiving finds at a unit: what reads of RSR, RCR and RDBA give there, and the serial of its receiver. They leave every cell.
 -- Assumes nothing.
 use mathlib.Core.Bool.{Bool, true, false, not}
 use mathlib.Core.List.{List}
@@ -8,8 +8,9 @@ use native.Mathlib.Omega.{arith}
 use borrow.Author.Tests.{leb-false}
 use lib.Dec.{leb}
 use Rattle.accesses.specs.Reading.{unitRead}
-use Rattle.board.specs.Receive.{addressIn, completeIn, readThen, standing}
+use Rattle.board.specs.Receive.{addressIn, completeIn, standing}
 use Rattle.board.specs.declared.receiving.Stood.{Stood}
+use Rattle.board.specs.laws.ReceivedLaws.{words-stood}
 use Rattle.cells.specs.Fitted.{receiverOf}
 use Rattle.cells.specs.Layout.{countIn}
 use Rattle.cells.specs.Ranges.{inRange}
@@ -17,7 +18,9 @@ use Rattle.frames.specs.laws.Leaves.{receiver-within, stays}
 use Rattle.laws.specs.Pick.{by, past}
 use Rattle.pcl.specs.Calls.{readBy, readCall}
 use Rattle.pcl.specs.Numbers.{readCallNumber, readCallWord}
+use Rattle.pcl.specs.Sides.{serialCall}
 use Rattle.pcl.specs.declared.answers.ReadCall.{ReadCall}
+use Rattle.pcl.specs.declared.answers.SerialCall.{SerialCall}
 use Rattle.receiver.specs.Side as R
 use Rattle.receiver.specs.declared.side.Receiver.{Receiver}
 use Rattle.receiver_registers.specs.Shown.{controlWord, statusWord}
@@ -78,17 +81,14 @@ module _ (cells : List ℕ) (unit : ℕ) (is : Ready cells unit) where
   pub address-shown : addressIn (shown cells unit 16) (shown cells unit 24) ≡ address
   address-shown = ap₂ addressIn (word-is 16 (controlWord r) refl) (word-is 24 (lowOf address) refl) ∙ address-is
 
-  -- a read, and what is done next
-  read-on : (offset word : ℕ) → unitRead cells unit offset ≡ (Read.Word word, cells) → (next : ℕ → List ℕ → Stood × List ℕ)
-      → readThen (readCall cells unit offset) next ≡ next word cells
-  read-on offset word e next = ap (λ (p : ReadCall × List ℕ). readThen p next) (read-is offset word e)
+  pub serial-is : serialCall cells unit 1 ≡ SerialCall.Serial (r .end .serial)
+  serial-is = sym (past _ (ap not (is .ranged)) (past _ (is .fitted) refl))
 
-  pub standing-is : standing cells unit ≡ (Stood.At (record { complete = completeIn (shown cells unit 18); end = address }), cells)
+  pub standing-is :
+      standing cells unit
+      ≡ (Stood.At (record { complete = completeIn (shown cells unit 18); end = address; serial = r .end .serial }), cells)
   standing-is =
-      let found : ℕ → ℕ → ℕ → List ℕ → Stood × List ℕ =
-      λ rsr rcr rdba left. (Stood.At (record { complete = completeIn rsr; end = addressIn rcr rdba }), left) in
-      read-on 18 (statusWord r) refl (λ rsr left. readThen (readCall left unit 16) (λ rcr then. readThen (readCall then unit 24) (found rsr rcr)))
-      ∙ read-on 16 (controlWord r) refl (λ rcr then. readThen (readCall then unit 24) (found (statusWord r) rcr))
-      ∙ read-on 24 (lowOf address) refl (found (statusWord r) (controlWord r))
-      ∙ ap₂ (λ (complete : Bool) (end : ℕ). (Stood.At (record { complete = complete; end = end }), cells))
+      words-stood cells unit (statusWord r) (controlWord r) (lowOf address) (r .end .serial) cells cells cells (read-is 18 (statusWord r) refl)
+      (read-is 16 (controlWord r) refl) (read-is 24 (lowOf address) refl) serial-is
+      ∙ ap₂ (λ (complete : Bool) (end : ℕ). (Stood.At (record { complete = complete; end = end; serial = r .end .serial }), cells))
       (ap completeIn (sym (word-is 18 (statusWord r) refl))) address-is

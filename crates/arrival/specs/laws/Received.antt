@@ -1,4 +1,5 @@
--- What receiving gives at a unit: "message not complete" where RSR does not show success, and where it does what the words tell.
+-- What receiving gives at a unit, with the serial of its receiver: "message not complete" where RSR does not show success, and where it
+-- does what the words tell.
 -- Assumes nothing.
 use mathlib.Core.Bool.{Bool, true, false}
 use mathlib.Core.List.{List, map}
@@ -24,21 +25,25 @@ module _ (cells memory : List ℕ) (unit first : ℕ) (is : Ready cells unit) (r
   abbrev words : List ℕ
   words = wordsBetween memory first (receiverOf cells unit .end .load .address .0)
 
+  abbrev serial : ℕ
+  serial = receiverOf cells unit .end .serial
+
   received : (complete : Bool) → completeIn (shown cells unit 18) ≡ complete
-      → receiveCall 1 cells memory unit first room ≡ receivedInto cells words room (readOf 1 complete words)
+      → receiveCall 1 cells memory unit first room ≡ receivedInto cells words room serial (readOf 1 complete words)
   received complete e =
       sym
       (past _ (le-ltb _ _ enough)
       (sym
       (ap (receivedAs 1 memory first room) (standing-is cells unit is)
-      ∙ ap (λ (c : Bool). receivedInto cells words room (readOf 1 c words)) e)))
+      ∙ ap (λ (c : Bool). receivedInto cells words room serial (readOf 1 c words)) e)))
 
-  pub not-complete : completeIn (shown cells unit 18) ≡ false → receiveCall 1 cells memory unit first room ≡ (ReceiveCall.Message Read.NotComplete, cells, room)
+  pub not-complete : completeIn (shown cells unit 18) ≡ false
+      → receiveCall 1 cells memory unit first room ≡ (ReceiveCall.Message Read.NotComplete serial, cells, room)
   not-complete e = received false e
 
   pub given : completeIn (shown cells unit 18) ≡ true → (numbers lentRoom left : List ℕ) (many : ℕ)
       → _≡_ {A = Built × List ℕ} (Built.Words many, left) (buildCall 1 numbers lentRoom) → words ≡ take many left
       → receiveCall 1 cells memory unit first room
-      ≡ (ReceiveCall.Message (Read.Readings (record { count = length numbers })), cells, over (map numberOf (lent numbers)) room)
+      ≡ (ReceiveCall.Message (Read.Readings (record { count = length numbers })) serial, cells, over (map numberOf (lent numbers)) room)
   given e numbers lentRoom left many built stand =
-      received true e ∙ sym (message-received 1 memory first room true enough refl (sym (build-then-read numbers lentRoom left room many built enough)) (sym stand))
+      received true e ∙ sym (message-received 1 memory first room serial true enough refl (sym (build-then-read numbers lentRoom left room many built enough)) (sym stand))

@@ -57,14 +57,14 @@ module _ (cells : List ℕ) (header : 2 ≤ length cells) (holder : ℕ) where
       (record { header = rw l (r .header); most = rw c (r .most); room = rw (c, l) (r .room); holder = rw (c, holder-put) most })
 
   module _ (k : ℕ) (there : Fitted cells k) where
-    window-after-holder : (p n : ℕ) → p ≤ 214 → window (splice cells 1 (holder ∷ [])) (unitPlace k + p) n ≡ window cells (unitPlace k + p) n
+    window-after-holder : (p n : ℕ) → p ≤ 216 → window (splice cells 1 (holder ∷ [])) (unitPlace k + p) n ≡ window cells (unitPlace k + p) n
     window-after-holder p n h = window-after cells 1 (holder ∷ []) (unitPlace k + p) (omega arith) (omega arith) n
 
     pub transmitter-after-holder : transmitterOf (splice cells 1 (holder ∷ [])) k ≡ transmitterOf cells k
-    transmitter-after-holder = ap decTransmitter (window-after-holder 4 72 (lit≤ tt))
+    transmitter-after-holder = ap decTransmitter (window-after-holder 4 73 (lit≤ tt))
 
     pub receiver-after-holder : receiverOf (splice cells 1 (holder ∷ [])) k ≡ receiverOf cells k
-    receiver-after-holder = ap decReceiver (window-after-holder 76 72 (lit≤ tt))
+    receiver-after-holder = ap decReceiver (window-after-holder 77 73 (lit≤ tt))
 
     pub master-after-holder : masterOf (splice cells 1 (holder ∷ [])) k ≡ masterOf cells k
-    master-after-holder = ap decMaster (window-after-holder 148 66 (lit≤ tt))
+    master-after-holder = ap decMaster (window-after-holder 150 66 (lit≤ tt))

@@ -26,27 +26,27 @@ use Rattle.cells.specs.laws.FrameLaws.{window-kept}
 
 -- ---- each side is a part of its unit's block
 
-pub transmitter-part : (t : Transmitter) → T.Within t → 4 + length (encTransmitter t) ≤ 214
+pub transmitter-part : (t : Transmitter) → T.Within t → 4 + length (encTransmitter t) ≤ 216
 transmitter-part t h = omega (arith, length-transmitter t h)
 
-pub receiver-part : (r : Receiver) → R.Within r → 76 + length (encReceiver r) ≤ 214
+pub receiver-part : (r : Receiver) → R.Within r → 77 + length (encReceiver r) ≤ 216
 receiver-part r h = omega (arith, length-receiver r h)
 
-pub master-part : (m : Master) → M.Within m → 148 + length (encMaster m) ≤ 214
+pub master-part : (m : Master) → M.Within m → 150 + length (encMaster m) ≤ 216
 master-part m h = omega (arith, length-master m h)
 
 module _ (cells : List ℕ) (u : ℕ) (f : Fitted cells u) where
   -- ---- a part that lies apart leaves each side of a unit
 
-  module _ (o : ℕ) (w : List ℕ) (part : o + length w ≤ 214) (k : ℕ) (there : Fitted cells k) where
-    transmitter-kept : (k ≡ u → (76 ≤ o) ⊎ (o + length w ≤ 4)) → transmitterOf (splice cells (unitPlace u + o) w) k ≡ transmitterOf cells k
-    transmitter-kept apart = ap decTransmitter (window-kept cells u f o w part k 4 72 there (lit≤ tt) apart)
+  module _ (o : ℕ) (w : List ℕ) (part : o + length w ≤ 216) (k : ℕ) (there : Fitted cells k) where
+    transmitter-kept : (k ≡ u → (77 ≤ o) ⊎ (o + length w ≤ 4)) → transmitterOf (splice cells (unitPlace u + o) w) k ≡ transmitterOf cells k
+    transmitter-kept apart = ap decTransmitter (window-kept cells u f o w part k 4 73 there (lit≤ tt) apart)
 
-    receiver-kept : (k ≡ u → (148 ≤ o) ⊎ (o + length w ≤ 76)) → receiverOf (splice cells (unitPlace u + o) w) k ≡ receiverOf cells k
-    receiver-kept apart = ap decReceiver (window-kept cells u f o w part k 76 72 there (lit≤ tt) apart)
+    receiver-kept : (k ≡ u → (150 ≤ o) ⊎ (o + length w ≤ 77)) → receiverOf (splice cells (unitPlace u + o) w) k ≡ receiverOf cells k
+    receiver-kept apart = ap decReceiver (window-kept cells u f o w part k 77 73 there (lit≤ tt) apart)
 
-    master-kept : (k ≡ u → (214 ≤ o) ⊎ (o + length w ≤ 148)) → masterOf (splice cells (unitPlace u + o) w) k ≡ masterOf cells k
-    master-kept apart = ap decMaster (window-kept cells u f o w part k 148 66 there (lit≤ tt) apart)
+    master-kept : (k ≡ u → (216 ≤ o) ⊎ (o + length w ≤ 150)) → masterOf (splice cells (unitPlace u + o) w) k ≡ masterOf cells k
+    master-kept apart = ap decMaster (window-kept cells u f o w part k 150 66 there (lit≤ tt) apart)
 
   -- ---- a side of the unit put back
 
@@ -70,13 +70,13 @@ module _ (cells : List ℕ) (u : ℕ) (f : Fitted cells u) where
 
     module _ (k : ℕ) (there : Fitted cells k) where
       pub transmitter-after-receiver : transmitterOf (putReceiver cells u r) k ≡ transmitterOf cells k
-      transmitter-after-receiver = transmitter-kept 76 (encReceiver r) (receiver-part r h) k there (λ e. inl (lit≤ tt))
+      transmitter-after-receiver = transmitter-kept 77 (encReceiver r) (receiver-part r h) k there (λ e. inl (lit≤ tt))
 
       pub receiver-after-receiver : (k ≡ u → ⊥) → receiverOf (putReceiver cells u r) k ≡ receiverOf cells k
-      receiver-after-receiver other = receiver-kept 76 (encReceiver r) (receiver-part r h) k there (λ e. absurd (other e))
+      receiver-after-receiver other = receiver-kept 77 (encReceiver r) (receiver-part r h) k there (λ e. absurd (other e))
 
       pub master-after-receiver : masterOf (putReceiver cells u r) k ≡ masterOf cells k
-      master-after-receiver = master-kept 76 (encReceiver r) (receiver-part r h) k there (λ e. inr (omega (arith, length-receiver r h)))
+      master-after-receiver = master-kept 77 (encReceiver r) (receiver-part r h) k there (λ e. inr (omega (arith, length-receiver r h)))
 
   module _ (m : Master) (h : M.Within m) where
     pub master-put : masterOf (putMaster cells u m) u ≡ m
@@ -84,10 +84,10 @@ module _ (cells : List ℕ) (u : ℕ) (f : Fitted cells u) where
 
     module _ (k : ℕ) (there : Fitted cells k) where
       pub transmitter-after-master : transmitterOf (putMaster cells u m) k ≡ transmitterOf cells k
-      transmitter-after-master = transmitter-kept 148 (encMaster m) (master-part m h) k there (λ e. inl (lit≤ tt))
+      transmitter-after-master = transmitter-kept 150 (encMaster m) (master-part m h) k there (λ e. inl (lit≤ tt))
 
       pub receiver-after-master : receiverOf (putMaster cells u m) k ≡ receiverOf cells k
-      receiver-after-master = receiver-kept 148 (encMaster m) (master-part m h) k there (λ e. inl (lit≤ tt))
+      receiver-after-master = receiver-kept 150 (encMaster m) (master-part m h) k there (λ e. inl (lit≤ tt))
 
       pub master-after-master : (k ≡ u → ⊥) → masterOf (putMaster cells u m) k ≡ masterOf cells k
-      master-after-master other = master-kept 148 (encMaster m) (master-part m h) k there (λ e. absurd (other e))
+      master-after-master other = master-kept 150 (encMaster m) (master-part m h) k there (λ e. absurd (other e))

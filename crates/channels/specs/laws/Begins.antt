@@ -1,4 +1,4 @@
--- What a fit leaves that is done: no two units have one address, every side is closed, and every receiver's silo is empty.
+-- What a fit leaves that is done: no two units have one address, every side is closed, every receiver's silo is empty, and every serial is 0.
 -- Assumes nothing.
 use mathlib.Core.Bool.{Bool, true, false, not, _&&_, _||_, true≢false}
 use mathlib.Core.List.{List}
@@ -37,6 +37,8 @@ pub record Begins (cells : List ℕ) : Type 0 where
   pub closed : (k : ℕ) → k < countIn cells → transmitterOf cells k .end .opened ≡ false
   pub closedThere : (k : ℕ) → k < countIn cells → receiverOf cells k .end .opened ≡ false
   pub empty : (k : ℕ) → k < countIn cells → count (receiverOf cells k .end .silo) ≡ 0
+  pub serials : (k : ℕ) → k < countIn cells → transmitterOf cells k .end .serial ≡ 0
+  pub serialsThere : (k : ℕ) → k < countIn cells → receiverOf cells k .end .serial ≡ 0
 
 -- ---- "no two equal"
 
@@ -120,4 +122,6 @@ fit-begins cells setup good enough =
       closed = λ k h. ap (λ (t : Transmitter). t .end .opened) (started k h .transmitter);
       closedThere = λ k h. ap (λ (r : Receiver). r .end .opened) (started k h .receiver);
       empty = λ k h. ap (λ (r : Receiver). count (r .end .silo)) (started k h .receiver);
+      serials = λ k h. ap (λ (t : Transmitter). t .end .serial) (started k h .transmitter);
+      serialsThere = λ k h. ap (λ (r : Receiver). r .end .serial) (started k h .receiver);
     }

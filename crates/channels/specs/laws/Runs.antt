@@ -1,28 +1,31 @@
 -- What holds after every run of calls from a fit.
 -- Assumes nothing.
-use mathlib.Core.Bool.{Bool, true, false, not, _&&_, _||_, true≢false}
+use mathlib.Core.Bool.{Bool, true, false, not, _&&_, _||_, true≢false, false≢true}
 use mathlib.Core.List.{List, [], _∷_}
 use mathlib.Core.Logic.{⊎-elim}
-use mathlib.Core.Path.{_≡_, refl, sym, _∙_}
-use Prim.Native.Nat.{ℕ, _+_, _≤_, _<_}
+use mathlib.Core.Path.{_≡_, refl, ap, ap₂, sym, _∙_}
+use Prim.Native.Nat.{ℕ, _+_, _%_, _≤_, _<_}
 use native.Mathlib.Omega.{arith}
-use borrow.Author.Tests.{eqb-true}
+use borrow.Author.Tests.{eqb-true, not-true}
 use lib.Dec.{eqb}
 use Rattle.cells.specs.Layout.{countIn}
 use Rattle.cells.specs.Ranges.{inRange}
 use Rattle.cells.specs.laws.FrameLaws.{receiver-address-kept, transmitter-address-kept}
 use Rattle.frames.specs.laws.Kept.{Kept}
 use Rattle.laws.specs.Pick.{by, either, pick}
-use Rattle.laws.specs.laws.Both.{right-of}
+use Rattle.laws.specs.laws.Both.{left-of, right-of}
 use Rattle.pcl.specs.Link.{sliceCall}
 use Rattle.pcl.specs.Numbers.{addressOf, sliceNumber, sliceValue}
+use Rattle.pcl.specs.declared.answers.SerialCall.{SerialCall}
 use Rattle.pcl.specs.declared.answers.SliceCall.{SliceCall}
+use Rattle.ends.specs.Ends.{raised}
+use Rattle.promise.specs.laws.RegisterReads.{serial-is}
 use Rattle.promise.specs.Kinds.{kindOf, other, own, quiet, sliceKind}
-use Rattle.promise.specs.World.{World, Event, fit, write, writeByte, read, slice, move, period, reset, level, hostWrite, step}
-use Rattle.channels.specs.History.{AllHanded, Handed, Past, lastOpened, next, past, receiverOpen, senderOpen}
-use Rattle.channels.specs.Statement.{CountTogether, Joined, OnOneChannel, OpenBetween, OpenedTogether, OpensInOwnSlice, OpensTogether, SentByOne, SentFrom, SucceedsTogether, maskOf}
+use Rattle.promise.specs.World.{World, Event, fit, write, writeByte, read, slice, move, period, reset, level, serial, hostWrite, step}
+use Rattle.channels.specs.History.{AllHanded, Handed, Past, fitsAgain, lastOpened, next, opensNow, past, receiverOpen, receiverSerial, senderOpen, senderSerial}
+use Rattle.channels.specs.Statement.{CountTogether, Joined, OnOneChannel, OpenBetween, OpenedTogether, OpensInOwnSlice, OpensTogether, OpensWithOne, SentByOne, SentFrom, SerialCounts, SerialOutlasts, SerialTogether, ShowOne, SucceedsTogether, maskOf}
 use Rattle.channels.specs.laws.Begins.{Apart, Begins}
-use Rattle.channels.specs.laws.Events.{steps}
+use Rattle.channels.specs.laws.Events.{begins, goes-on, steps}
 use Rattle.channels.specs.laws.SliceEvents.{slice-succeeds}
 use Rattle.channels.specs.laws.Steps.{GoesOn, Steps, Took}
 
@@ -55,6 +58,8 @@ pub record Sound (p : Past) : Type 0 where
   pub earlier : (k : ℕ) → p .sender k ≤ p .events
   pub together : OpenedTogether p
   pub counts : CountTogether p
+  -- T and R that are open with each other have one serial
+  pub serials : (u v : ℕ) → OpenBetween (p .world .cells) u v → senderSerial (p .world) u ≡ receiverSerial (p .world) v
   -- no two transmitters that are open opened in the same event
   pub alone : (a b : ℕ) → a < countIn (p .world .cells) → b < countIn (p .world .cells) → senderOpen (p .world) a ≡ true
       → senderOpen (p .world) b ≡ true → p .sender a ≡ p .sender b → a ≡ b
@@ -86,6 +91,7 @@ one-own (move unit side) w a b x y = absurd (never x)
 one-own (period unit) w a b x y = absurd (never x)
 one-own (reset unit) w a b x y = absurd (never x)
 one-own (level unit side) w a b x y = absurd (never x)
+one-own (serial unit side) w a b x y = absurd (never x)
 one-own (hostWrite unit place word) w a b x y = absurd (never x)
 
 -- ---- one event more
@@ -108,6 +114,7 @@ module _ (e : Event) (p : Past) (s : Sound p) where
         earlier = earlier-next;
         together = λ u v here there j. absurd (true≢false (sym (j .opened) ∙ b .closed u here));
         counts = λ u v j. absurd (true≢false (sym (j .joined .opened) ∙ b .closed u (j .fitted)));
+        serials = λ u v j. absurd (true≢false (sym (j .joined .opened) ∙ b .closed u (j .fitted)));
         alone = λ u v here there o c same. absurd (true≢false (sym o ∙ b .closed u here));
       }
 
@@ -136,6 +143,19 @@ module _ (e : Event) (p : Past) (s : Sound p) where
         let there = counted v (j .fittedThere) in
         g .counts u v here there (λ was. s .counts u v (record { fitted = here; fittedThere = there; joined = was })) (j .joined)
 
+    -- what was open with each other keeps its serials, and what opens has one
+    serials-next : (u v : ℕ) → OpenBetween (q .world .cells) u v → senderSerial (q .world) u ≡ receiverSerial (q .world) v
+    serials-next u v j =
+        let here = counted u (j .fitted) in
+        let there = counted v (j .fittedThere) in
+        ⊎-elim
+        (λ (was : Joined (w .cells) u v).
+        g .serials u here .0 (λ shut o. true≢false (sym (was .opened) ∙ shut))
+        ∙ s .serials u v (record { fitted = here; fittedThere = there; joined = was })
+        ∙ sym (g .serialsThere v there (λ shut o. true≢false (sym (was .openedThere) ∙ shut))))
+        (λ shut. g .copies u v here there (shut .0) (j .joined))
+        (g .joins u v here there (j .joined))
+
     -- of two transmitters that are open, with the same number
     module _ (a b : ℕ) (here : a < countIn (q .world .cells)) (there : b < countIn (q .world .cells)) (openA : senderOpen (step e w) a ≡ true)
         (openB : senderOpen (step e w) b ≡ true) (same : q .sender a ≡ q .sender b) where
@@ -163,6 +183,7 @@ module _ (e : Event) (p : Past) (s : Sound p) where
           earlier = earlier-next;
           together = together-next;
           counts = counts-next;
+          serials = serials-next;
           alone = alone-next;
         }
 
@@ -222,6 +243,17 @@ joined-since (e ∷ es) h p s u v b before =
     (λ (b : Begins (step e (p .world) .cells)). absurd (true≢false (sym (later .1) ∙ b .closed u (later .0))))
     took
 
+-- ---- the serials of a channel
+
+-- two sides of fitted units that have one serial show it
+show-one : (w : World) → inRange (w .cells) ≡ true → (u v : ℕ) → u < countIn (w .cells) → v < countIn (w .cells) → senderSerial w u ≡ receiverSerial w v
+    → ShowOne w u v
+show-one w ok u v fits fits-there same =
+    (receiverSerial w v, serial-is w ok u fits 0 (receiverSerial w v) (ap SerialCall.Serial same), serial-is w ok v fits-there 1 (receiverSerial w v) refl)
+
+pub shown-together : (p : Past) → Sound p → SerialTogether p
+shown-together p s u v b = show-one (p .world) (s .ranged) u v (b .fitted) (b .fittedThere) (s .serials u v b)
+
 -- ---- (2)
 
 module _ (p : Past) (s : Sound p) (e : Event) (handed : Handed e) where
@@ -252,7 +284,9 @@ opened-by p s e handed v there shut open-now =
     ⊎-elim
     (λ (g : GoesOn e (p .world)).
     let from = g .opensThere v (omega (arith, g .kept .count)) shut open-now in
-    (from .0, from .1, sent-from p s e handed g v there (from .0) (from .2)))
+    let sent = sent-from p s e handed g v there (from .0) (from .2) in
+    let b : OpenBetween (next e p .world .cells) (from .0) v = record { fitted = sent .channel .fitted; fittedThere = there; joined = sent .channel .joined } in
+    (from .0, from .1, sent, shown-together (next e p) (next-sound e p s (took p s e handed)) (from .0) v b))
     (λ (b : Begins (step e (p .world) .cells)). absurd (true≢false (sym open-now ∙ b .closedThere v there)))
     (took p s e handed)
 
@@ -266,13 +300,99 @@ same-sender p s e handed es all later last v a b x y same =
     let at-q = open-since es all q sound b (at-r .0) (at-r .1) (omega (arith, number, at-r .2, sound .earlier a)) in
     (sound .alone a b (x .fitted) (at-q .0) (x .joined .opened) (at-q .1) (sym (at-q .2 ∙ at-r .2 ∙ number)), number)
 
+-- ---- the serials
+
+-- a number by its three cases
+one-of-three : (again opens : Bool) (now up before : ℕ) → (again ≡ true → now ≡ 0) → (again ≡ false → opens ≡ true → now ≡ up)
+    → (again ≡ false → opens ≡ false → now ≡ before) → now ≡ pick again 0 (pick opens up before)
+one-of-three true opens now up before a b c = a refl
+one-of-three false true now up before a b c = b refl refl
+one-of-three false false now up before a b c = c refl refl
+
+module _ (p : Past) (s : Sound p) (e : Event) (handed : Handed e) where
+  abbrev goes : fitsAgain e (p .world) ≡ false → GoesOn e (p .world)
+  goes going = goes-on e (p .world) (s .ranged) (s .apart) handed going
+
+  fitted-before : (going : fitsAgain e (p .world) ≡ false) (k : ℕ) → k < countIn (next e p .world .cells) → k < countIn (p .world .cells)
+  fitted-before going k there = omega (arith, goes going .kept .count)
+
+  module _ (k : ℕ) (there : k < countIn (next e p .world .cells)) where
+    abbrev was : Bool
+    was = senderOpen (p .world) k
+
+    abbrev is : Bool
+    is = senderOpen (next e p .world) k
+
+    raised-so : senderSerial (next e p .world) k
+        ≡ pick (fitsAgain e (p .world)) 0 (pick (opensNow was is) (raised (senderSerial (p .world) k)) (senderSerial (p .world) k))
+    raised-so =
+        one-of-three (fitsAgain e (p .world)) (not was && is) (senderSerial (next e p .world) k) (raised (senderSerial (p .world) k)) (senderSerial (p .world) k)
+        (λ again. begins e (p .world) again .serials k there)
+        (λ going opens. goes going .serials k (fitted-before going k there) .1 (not-true was (left-of (not was) is opens)) (right-of (not was) is opens))
+        (λ going stays. goes going .serials k (fitted-before going k there) .0 (λ shut o. true≢false (sym (ap₂ opensNow shut o) ∙ stays)))
+
+    pub kept-so : opensNow (receiverOpen (p .world) k) (receiverOpen (next e p .world) k) ≡ false
+        → receiverSerial (next e p .world) k ≡ pick (fitsAgain e (p .world)) 0 (receiverSerial (p .world) k)
+    kept-so none =
+        one-of-three (fitsAgain e (p .world)) false (receiverSerial (next e p .world) k) 0 (receiverSerial (p .world) k)
+        (λ again. begins e (p .world) again .serialsThere k there) (λ going never. absurd (false≢true never))
+        (λ going e. goes going .serialsThere k (fitted-before going k there) (λ shut o. true≢false (sym (ap₂ opensNow shut o) ∙ none)))
+
+-- so T's serial stays the count of its openings
+abbrev pub Counted : Past → Type 0
+Counted p = (k : ℕ) → k < countIn (p .world .cells) → senderSerial (p .world) k ≡ p .openings k % 65536
+
+same-count : (again opens : Bool) (n m : ℕ) → (again ≡ false → n ≡ m % 65536)
+    → pick again 0 (pick opens (raised n) n) ≡ pick again 0 (pick opens (m + 1) m) % 65536
+same-count true opens n m h = omega arith
+same-count false true n m h = omega (arith, h refl)
+same-count false false n m h = h refl
+
+pub past-counted : (es : List Event) → AllHanded es → (p : Past) → Sound p → Counted p → Counted (past es p)
+past-counted [] h p s c = c
+past-counted (e ∷ es) h p s c =
+    past-counted es (h .1) (next e p) (next-sound e p s (took p s e (h .0)))
+    (λ k there. raised-so p s e (h .0) k there
+    ∙ same-count (fitsAgain e (p .world)) (opensNow (senderOpen (p .world) k) (senderOpen (next e p .world) k)) (senderSerial (p .world) k) (p .openings k)
+    (λ going. c k (fitted-before p s e (h .0) going k there)))
+
+pub shown-count : (p : Past) → Sound p → Counted p → SerialCounts p
+shown-count p s c k there = serial-is (p .world) (s .ranged) k there 0 (p .openings k % 65536) (ap SerialCall.Serial (c k there))
+
+-- neither end opens where both are open
+pub outlasts : (p : Past) → Sound p → SerialOutlasts p
+outlasts p s e handed going u v b =
+    let g = goes-on e (p .world) (s .ranged) (s .apart) handed going in
+    let units = g .kept .count in
+    show-one (next e p .world) (g .ranged) u v (omega (arith, units, b .fitted)) (omega (arith, units, b .fittedThere))
+    (g .serials u (b .fitted) .0 (λ shut o. true≢false (sym (b .joined .opened) ∙ shut))
+    ∙ s .serials u v b
+    ∙ sym (g .serialsThere v (b .fittedThere) (λ shut o. true≢false (sym (b .joined .openedThere) ∙ shut))))
+
+pub opens-with : (p : Past) → Sound p → OpensWithOne p
+opens-with p s e handed k there shut open-now =
+    ⊎-elim
+    (λ (g : GoesOn e (p .world)).
+    let y = g .opensWith k (omega (arith, g .kept .count)) shut open-now in
+    (y .0, y .2, record { fitted = there; fittedThere = omega (arith, g .kept .count, y .1); joined = y .3 }))
+    (λ (b : Begins (step e (p .world) .cells)). absurd (true≢false (sym open-now ∙ b .closed k there)))
+    (took p s e handed)
+
 -- ---- success
 
 pub succeeded-between : (p : Past) → Sound p → SucceedsTogether p
 succeeded-between p s mask parity y =
     let z = slice-succeeds (p .world .cells) (s .ranged) (s .apart) mask parity y in
-    let b = z .3 in
-    (z .0, z .1, record { address = z .2; between = b; together = s .together (z .0) (z .1) (b .fitted) (b .fittedThere) (b .joined) .1 })
+    let b = z .3 in (
+      z .0,
+      z .1,
+      record {
+        address = z .2;
+        between = b;
+        together = s .together (z .0) (z .1) (b .fitted) (b .fittedThere) (b .joined) .1;
+        serial = outlasts p s (slice mask parity) tt refl (z .0) (z .1) b;
+      },
+    )
 
 pub own-opening : (p : Past) → Sound p → OpensInOwnSlice p
 own-opening p s e handed k there shut open-now =

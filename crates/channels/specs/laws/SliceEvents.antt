@@ -34,8 +34,10 @@ use Rattle.promise.specs.laws.SliceCalls.{slice-call, slice-kind}
 use Rattle.receiver.specs.declared.side.Receiver.{Receiver}
 use Rattle.sending.specs.Choice.{destinationOf}
 use Rattle.silos.specs.Silo.{Sized, count}
+use Rattle.slices.specs.Serials.{alone-keeps, opens, receiver-copies, sender-raised}
 use Rattle.slices.specs.Slice.{exchanged, sentAlone}
 use Rattle.slices.specs.laws.Keeps.{another}
+use Rattle.slices.specs.laws.Openings.{opens-receiver, opens-sender, sender-opens}
 use Rattle.slices.specs.declared.Pair.{Pair}
 use Rattle.transmitter.specs.declared.side.Transmitter.{Transmitter}
 use Rattle.words.specs.declared.codes.Codes.{Codes}
@@ -44,7 +46,7 @@ use Rattle.channels.specs.laws.Begins.{Apart}
 use Rattle.channels.specs.laws.Exchanges as E
 use Rattle.channels.specs.laws.Exchanges.{Exchanges, alone-shuts, alone-unanswered, exchanges}
 use Rattle.channels.specs.laws.Quiet.{none-receives, none-sends, nothing, quiet, quiet-masterless, senders}
-use Rattle.channels.specs.laws.Steps.{Goes, Took, quiet-goes}
+use Rattle.channels.specs.laws.Steps.{Counts, Goes, Keeps, Took, quiet-goes}
 use Rattle.channels.specs.laws.Still.{Still}
 
 -- the same ends, said otherwise
@@ -59,9 +61,12 @@ between-so p q f g b =
 
 -- one that acts alone gets 00, and is closed after it
 still-alone : (t : Transmitter) → Still t (sentAlone t .transmitter)
-still-alone t o =
-    let same = alone-shuts t o .1 in
-    (alone-shuts t o .0, ap (λ (x : Transmitter). x .channel .destination) same, ap (λ (x : Transmitter). x .end .block) same)
+still-alone t = (
+  alone-keeps t,
+  λ o.
+      let same = alone-shuts t o .1 in
+      (alone-shuts t o .0, ap (λ (x : Transmitter). x .channel .destination) same, ap (λ (x : Transmitter). x .end .block) same),
+)
 
 -- ---- T and R are found
 
@@ -234,6 +239,32 @@ module _ (kind : ℕ → Kind) (cells after : List ℕ) (ok : inRange cells ≡ 
         let left-there = elsewhere-there v (eqb-false v there f) in
         even-so left left-there (even (between-so left left-there refl refl b))))
 
+    -- the serials
+
+    counts-serial : Counts t (p .transmitter)
+    counts-serial = (
+      λ none.
+          by (opens t p)
+          (λ e.
+          let both = opens-sender t r from mask parity e in
+          absurd (none (both .0) (both .1)))
+          (λ e. sender-raised t r from mask parity ∙ sym (past _ e refl)),
+      λ shut o. sender-raised t r from mask parity ∙ sym (here _ (sender-opens t r from mask parity shut o) refl),
+    )
+
+    keeps-serial : Keeps r (p .receiver)
+    keeps-serial none =
+        by (opens t p)
+        (λ e.
+        let both = opens-receiver t r from mask parity e in
+        absurd (none (both .0) (both .1)))
+        (λ e. receiver-copies t r from mask parity ∙ sym (past _ e refl))
+
+    same-serial : t .end .opened ≡ false → p .transmitter .end .opened ≡ true → p .transmitter .end .serial ≡ p .receiver .end .serial
+    same-serial shut o =
+        let e = sender-opens t r from mask parity shut o in
+        sender-raised t r from mask parity ∙ sym (here _ e refl) ∙ here _ e refl ∙ sym (receiver-copies t r from mask parity)
+
     abbrev held : Receiver → ℕ
     held y = count (y .end .silo)
 
@@ -260,6 +291,28 @@ module _ (kind : ℕ → Kind) (cells after : List ℕ) (ok : inRange cells ≡ 
           let same = eqb-true v there e in
           subst⁻¹ Q same (so (subst (P r) receiver-now (subst (λ (n : ℕ). P (receiverOf cells n) (receiverOf after n)) same h))))
           (λ e. absurd (never _ (subst (P (receiverOf cells v)) (l .holds .receiver v fits ∙ elsewhere-there v (eqb-false v there e)) h)))
+
+      -- what becomes of T, and of one that stays as it is, becomes of each transmitter; and so of R
+      at-sender : (P : Transmitter → Transmitter → Type 0) → ((y : Transmitter) → P y y) → P t (p .transmitter) → (k : ℕ) → k < countIn cells
+          → P (transmitterOf cells k) (transmitterOf after k)
+      at-sender P stays-so so k fits =
+          by (eqb k unit)
+          (λ e. subst⁻¹ (λ (n : ℕ). P (transmitterOf cells n) (transmitterOf after n)) (eqb-true k unit e) (subst⁻¹ (P t) sender-now so))
+          (λ e. subst⁻¹ (P (transmitterOf cells k)) (l .holds .transmitter k fits ∙ elsewhere k (eqb-false k unit e)) (stays-so (transmitterOf cells k)))
+
+      at-receiver : (P : Receiver → Receiver → Type 0) → ((y : Receiver) → P y y) → P r (p .receiver) → (v : ℕ) → v < countIn cells
+          → P (receiverOf cells v) (receiverOf after v)
+      at-receiver P stays-so so v fits =
+          by (eqb v there)
+          (λ e. subst⁻¹ (λ (n : ℕ). P (receiverOf cells n) (receiverOf after n)) (eqb-true v there e) (subst⁻¹ (P r) receiver-now so))
+          (λ e. subst⁻¹ (P (receiverOf cells v)) (l .holds .receiver v fits ∙ elsewhere-there v (eqb-false v there e)) (stays-so (receiverOf cells v)))
+
+      -- T is open to R alone
+      only-open : (u v : ℕ) → u ≡ unit → v < countIn cells → Joined after u v → v ≡ there
+      only-open u v same fits j =
+          let now = ap (transmitterOf after) same ∙ sender-now in
+          only-there v fits (ap (λ (y : Transmitter). y .end .opened) (sym now) ∙ j .opened)
+          (ap (λ (y : Transmitter). y .channel .destination) (sym now) ∙ j .destination ∙ receives v)
 
       took : E.Took t r from mask p → Took kind mask cells after unit there
       took y =
@@ -296,6 +349,32 @@ module _ (kind : ℕ → Kind) (cells after : List ℕ) (ok : inRange cells ≡ 
                 let y = x .opens (b .0) (b .1) in
                 (unit, y .0, took (y .1)))
                 v fits (shut, o);
+            opensWith = λ k fits shut o.
+                by (eqb k unit)
+                (λ e.
+                let same = eqb-true k unit e in
+                let now = ap (transmitterOf after) same ∙ sender-now in
+                let opened = ap (λ (y : Transmitter). y .end .opened) (sym now) ∙ o in
+                let shut-here = ap (λ (n : ℕ). transmitterOf cells n .end .opened) (sym same) ∙ shut in
+                let both = opens-receiver t r from mask parity (sender-opens t r from mask parity shut-here opened) in
+                (there, there-fitted, both .0, subst⁻¹ (λ (n : ℕ). Joined after n there) same (took (x .opens (both .0) (both .1) .1) .joined)))
+                (λ e. absurd (true≢false (sym o ∙ ap (λ (y : Transmitter). y .end .opened) (h .transmitter k fits ∙ elsewhere k (eqb-false k unit e)) ∙ shut)));
+            serials = at-sender Counts (λ y. (λ none. refl, λ shut o. absurd (true≢false (sym o ∙ shut)))) counts-serial;
+            serialsThere = at-receiver Keeps (λ y none. refl) keeps-serial;
+            copies = λ u v fits fits-there shut j.
+                by (eqb u unit)
+                (λ e.
+                let same = eqb-true u unit e in
+                by (eqb v there)
+                (λ f.
+                let now = ap (transmitterOf after) same ∙ sender-now in
+                let opened = ap (λ (y : Transmitter). y .end .opened) (sym now) ∙ j .opened in
+                let shut-here = ap (λ (n : ℕ). transmitterOf cells n .end .opened) (sym same) ∙ shut in
+                ap (λ (y : Transmitter). y .end .serial) now
+                ∙ same-serial shut-here opened
+                ∙ ap (λ (y : Receiver). y .end .serial) (sym (ap (receiverOf after) (eqb-true v there f) ∙ receiver-now)))
+                (λ f. absurd (eqb-false v there f (only-open u v same fits-there j))))
+                (λ e. absurd (true≢false (sym (j .opened) ∙ ap (λ (y : Transmitter). y .end .opened) (h .transmitter u fits ∙ elsewhere u (eqb-false u unit e)) ∙ shut)));
           }
 
   -- ---- and where one is not
@@ -308,8 +387,8 @@ module _ (kind : ℕ → Kind) (cells after : List ℕ) (ok : inRange cells ≡ 
       let sides = sidesOf cells in
       either P (ltb unit 16)
       (λ e. either P (ltb there 16) (λ f. heard-goes (ltb-true unit 16 e) (ltb-true there 16 f))
-      (λ f l. quiet-goes kind mask (quiet l (senders sides unit _ (still-alone (transmitterOf cells unit)), none-receives sides))))
-      (λ e l. quiet-goes kind mask (quiet l (none-sends sides, none-receives sides)))
+      (λ f l. quiet-goes kind mask (quiet l (record { sends = senders sides unit _ (still-alone (transmitterOf cells unit)); receives = none-receives sides }))))
+      (λ e l. quiet-goes kind mask (quiet l (record { sends = none-sends sides; receives = none-receives sides })))
 
   -- A 11 and B 11
   abbrev Succeeded : Codes → Type 0

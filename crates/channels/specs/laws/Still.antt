@@ -1,5 +1,5 @@
--- What no slice is: every rule by which a call other than a slice changes a side opens none. A side that is open after it was open before,
--- with the same partner and the same count, and a receiver's silo holds no more than before.
+-- What no slice is: every rule by which a call other than a slice changes a side opens none, and leaves its serial. A side that is open after
+-- it was open before, with the same partner and the same count, and a receiver's silo holds no more than before.
 -- Assumes nothing.
 use mathlib.Core.Bool.{true, not, _&&_, _||_, false≢true}
 use mathlib.Core.List.{List}
@@ -39,16 +39,17 @@ use Rattle.words.specs.declared.address.Place.{Place}
 
 abbrev pub Still : Transmitter → Transmitter → Type 0
 Still t after =
-    after .end .opened ≡ true
-    → (t .end .opened ≡ true) × (after .channel .destination ≡ t .channel .destination) × (after .end .block ≡ t .end .block)
+    (after .end .serial ≡ t .end .serial)
+    × (after .end .opened ≡ true
+    → (t .end .opened ≡ true) × (after .channel .destination ≡ t .channel .destination) × (after .end .block ≡ t .end .block))
 
 module _ (t : Transmitter) where
   pub still-same : Still t t
-  still-same e = (e, refl, refl)
+  still-same = (refl, λ e. (e, refl, refl))
 
   -- TX INIT and reset
-  pub still-initial : Still t T.initial
-  still-initial e = absurd (false≢true e)
+  pub still-initial : Still t (T.initialised t)
+  still-initial = (refl, λ e. absurd (false≢true e))
 
   pub still-missed : Still t (masterMissed t)
   still-missed = either (Still t) (missesMaster t) (λ e. still-same) (λ e. still-same)
@@ -91,7 +92,8 @@ module _ (t : Transmitter) where
 
 abbrev pub StillThere : Receiver → Receiver → Type 0
 StillThere r after =
-    (after .end .opened ≡ true → (r .end .opened ≡ true) × (after .modes .sender ≡ r .modes .sender) × (after .end .block ≡ r .end .block))
+    (after .end .serial ≡ r .end .serial)
+    × (after .end .opened ≡ true → (r .end .opened ≡ true) × (after .modes .sender ≡ r .modes .sender) × (after .end .block ≡ r .end .block))
     × (count (after .end .silo) ≤ count (r .end .silo))
 
 -- one word fewer, or none
@@ -100,11 +102,11 @@ fewer s = either (λ (x : Silo). count x ≤ count s) (isEmpty s) (λ e. omega a
 
 module _ (r : Receiver) where
   pub there-same : StillThere r r
-  there-same = (λ o. (o, refl, refl), omega arith)
+  there-same = (refl, λ o. (o, refl, refl), omega arith)
 
   -- RC INIT and reset
-  pub there-initial : StillThere r R.initial
-  there-initial = (λ o. absurd (false≢true o), omega arith)
+  pub there-initial : StillThere r (R.initialised r)
+  there-initial = (refl, λ o. absurd (false≢true o), omega arith)
 
   pub there-period : StillThere r (RP.periodPassed r)
   there-period = either (StillThere r) (r .end .mark && r .end .opened) (λ e. there-same) (λ e. there-same)
@@ -112,7 +114,7 @@ module _ (r : Receiver) where
   there-passed : StillThere r (RM.wordPassed r)
   there-passed =
       let one : count (taken (r .end .silo)) ≤ count (r .end .silo) = fewer (r .end .silo) in
-      either (StillThere r) (wordMoved (r .end .load) (r .modes .inhibitIncrement) .overflow) (λ e. (λ o. (o, refl, refl), one)) (λ e. (λ o. (o, refl, refl), one))
+      either (StillThere r) (wordMoved (r .end .load) (r .modes .inhibitIncrement) .overflow) (λ e. (refl, λ o. (o, refl, refl), one)) (λ e. (refl, λ o. (o, refl, refl), one))
 
   there-to : (memory : List ℕ) (p : Place) → StillThere r (RM.movedTo r memory p .0 .side)
   there-to memory (Place.Inside at) = there-passed
@@ -129,7 +131,7 @@ module _ (r : Receiver) where
       let P : RRD.Reading → Type 0 = λ x. StillThere r (x .side) in
       either P (eqb offset 20)
       (λ e. either P (isEmpty (r .end .silo)) (λ e. there-same)
-      (λ e. either P (r .modes .memoryRequests) (λ e. there-same) (λ e. (λ o. (o, refl, refl), fewer (r .end .silo)))))
+      (λ e. either P (r .modes .memoryRequests) (λ e. there-same) (λ e. (refl, λ o. (o, refl, refl), fewer (r .end .silo)))))
       (λ e. there-same)
 
   pub there-written : (offset word : ℕ) → StillThere r (RW.written r offset word .side)

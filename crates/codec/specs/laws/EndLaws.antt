@@ -30,9 +30,9 @@ same-load : {count address count' address' : ℕ} {loaded loaded' : Bool} → co
     → _≡_ {A = Load} (record { count = inBytes count; loaded = loaded; address = at address }) (record { count = inBytes count'; loaded = loaded'; address = at address' })
 same-load c l a = rw (c, l, a)
 
-same-end : {s s' : Silo} {l l' : Load} {c c' : Codes} {o o' m m' : Bool} {b b' n n' : ℕ} → s ≡ s' → l ≡ l' → c ≡ c' → o ≡ o' → b ≡ b' → n ≡ n' → m ≡ m'
-    → _≡_ {A = End} (record { silo = s; load = l; shown = c; opened = o; block = b; crc = n; mark = m }) (record { silo = s'; load = l'; shown = c'; opened = o'; block = b'; crc = n'; mark = m' })
-same-end s l c o b n m = rw (s, l, c, o, b, n, m)
+same-end : {s s' : Silo} {l l' : Load} {c c' : Codes} {o o' m m' : Bool} {b b' n n' i i' : ℕ} → s ≡ s' → l ≡ l' → c ≡ c' → o ≡ o' → b ≡ b' → n ≡ n' → m ≡ m' → i ≡ i'
+    → _≡_ {A = End} (record { silo = s; load = l; shown = c; opened = o; block = b; crc = n; mark = m; serial = i }) (record { silo = s'; load = l'; shown = c'; opened = o'; block = b'; crc = n'; mark = m'; serial = i' })
+same-end s l c o b n m i = rw (s, l, c, o, b, n, m, i)
 
 load-back : (l : Load) (control : ℕ) → Bounded l → bitAt control LOADED ≡ l .loaded → bits control EA16 2 ≡ extensionOf (l .address .0)
     → loadOf (lowOf (l .address .0) / 2) (l .count .0 / 2) control ≡ l
@@ -40,7 +40,7 @@ load-back l control h loaded extension =
     same-load (omega (arith, h .sixteenBits, h .evenCount)) loaded (rw extension (omega (arith, h .evenAddress)))
 
 module _ (e : End) (own control status : ℕ) (h : Within e) where
-  pub length-end : length (windowOf e own control status) ≡ 72
+  pub length-end : length (windowOf e own control status) ≡ 73
   length-end = omega (arith, h .silo .cells64)
 
   silo-back : siloIn (windowOf e own control status) ≡ e .silo
@@ -51,13 +51,14 @@ module _ (e : End) (own control status : ℕ) (h : Within e) where
       → (opened mark : Bool) → opened ≡ e .opened → mark ≡ e .mark → endIn (windowOf e own control status) opened mark ≡ e
   end-back loaded extension codes opened mark open-back mark-back =
       same-end silo-back (load-back (e .load) control (h .load) loaded extension) codes open-back (omega (arith, h .block)) (omega (arith, h .crc)) mark-back
+      (omega (arith, h .serial))
 
 -- ---- what is read is within its values
 
 bounded-of : (low count control : ℕ) → Bounded (loadOf low count control)
 bounded-of low count control = record { sixteenBits = omega arith; evenCount = omega arith; evenAddress = omega arith; eighteenBits = omega arith }
 
-pub end-within : (w : List ℕ) (opened mark : Bool) → length w ≡ 72 → Within (endIn w opened mark)
+pub end-within : (w : List ℕ) (opened mark : Bool) → length w ≡ 73 → Within (endIn w opened mark)
 end-within w opened mark long =
     record {
       silo = record { most = omega arith; cells64 = simp (length-take, length-drop) (omega arith) };
@@ -65,4 +66,5 @@ end-within w opened mark long =
       shown = record { codeA = omega arith; codeB = omega arith };
       block = omega arith;
       crc = omega arith;
+      serial = omega arith;
     }

@@ -46,7 +46,7 @@ same : (r : Receiver) {c c' : Commands} {m m' : Modes} {f f' : Faults} {o o' : O
 same r c m f o x = rw (c, m, f, o, x)
 
 module _ (r : Receiver) (h : Within r) where
-  pub length-receiver : length (encReceiver r) ≡ 72
+  pub length-receiver : length (encReceiver r) ≡ 73
   length-receiver = length-end (r .end) (bit (r .channel .truncated)) (controlCell r) (statusCell r) (h .end)
 
   pub dec-enc-receiver : decReceiver (encReceiver r) ≡ r
@@ -76,7 +76,7 @@ module _ (r : Receiver) (h : Within r) where
 
 -- ---- what is read is within its values
 
-pub within-receiver : (w : List ℕ) → length w ≡ 72 → Within (decReceiver w)
+pub within-receiver : (w : List ℕ) → length w ≡ 73 → Within (decReceiver w)
 within-receiver w long =
     record {
       end = end-within w (bitAt (cell w STATUS) RSR.CHN-OPN) (bitAt (cell w CONTROL) MARK) long;
@@ -87,9 +87,9 @@ within-receiver w long =
 
 -- ---- at a place of the cells
 
-module _ (cells : List ℕ) (at : ℕ) (fits : at + 72 ≤ length cells) where
+module _ (cells : List ℕ) (at : ℕ) (fits : at + 73 ≤ length cells) where
   pub receiver-loaded : Within (receiverAt cells at)
-  receiver-loaded = within-receiver (window cells at 72) (length-window cells at 72 fits)
+  receiver-loaded = within-receiver (window cells at 73) (length-window cells at 73 fits)
 
   pub receiver-stored : (r : Receiver) → Within r → receiverAt (splice cells at (encReceiver r)) at ≡ r
-  receiver-stored r h = ap decReceiver (window-spliced cells at (encReceiver r) 72 (length-receiver r h) fits) ∙ dec-enc-receiver r h
+  receiver-stored r h = ap decReceiver (window-spliced cells at (encReceiver r) 73 (length-receiver r h) fits) ∙ dec-enc-receiver r h

@@ -47,7 +47,7 @@ same-channel : {e e' a a' : Bool} {d d' : ℕ} → e ≡ e' → a ≡ a' → d �
 same-channel e a d = rw (e, a, d)
 
 module _ (t : Transmitter) (h : Within t) where
-  pub length-transmitter : length (encTransmitter t) ≡ 72
+  pub length-transmitter : length (encTransmitter t) ≡ 73
   length-transmitter = length-end (t .end) (t .channel .destination) (controlCell t) (statusCell t) (h .end)
 
   pub dec-enc-transmitter : decTransmitter (encTransmitter t) ≡ t
@@ -78,7 +78,7 @@ module _ (t : Transmitter) (h : Within t) where
 
 -- ---- what is read is within its values
 
-pub within-transmitter : (w : List ℕ) → length w ≡ 72 → Within (decTransmitter w)
+pub within-transmitter : (w : List ℕ) → length w ≡ 73 → Within (decTransmitter w)
 within-transmitter w long =
     record {
       end = end-within w (bitAt (cell w STATUS) TSR.BUSY) (bitAt (cell w CONTROL) MARK) long;
@@ -91,9 +91,9 @@ within-transmitter w long =
 
 -- ---- at a place of the cells
 
-module _ (cells : List ℕ) (at : ℕ) (fits : at + 72 ≤ length cells) where
+module _ (cells : List ℕ) (at : ℕ) (fits : at + 73 ≤ length cells) where
   pub transmitter-loaded : Within (transmitterAt cells at)
-  transmitter-loaded = within-transmitter (window cells at 72) (length-window cells at 72 fits)
+  transmitter-loaded = within-transmitter (window cells at 73) (length-window cells at 73 fits)
 
   pub transmitter-stored : (t : Transmitter) → Within t → transmitterAt (splice cells at (encTransmitter t)) at ≡ t
-  transmitter-stored t h = ap decTransmitter (window-spliced cells at (encTransmitter t) 72 (length-transmitter t h) fits) ∙ dec-enc-transmitter t h
+  transmitter-stored t h = ap decTransmitter (window-spliced cells at (encTransmitter t) 73 (length-transmitter t h) fits) ∙ dec-enc-transmitter t h

@@ -48,7 +48,7 @@ channel-loaded m (State.words s c) t r memory (o, block) = (open-moved o _ _ _ _
 channel-loaded m (State.due s) t r memory (o, block) = (open-moved o _ _ _ _ _, block)
 channel-loaded m State.last t r memory o = open-moved o _ _ _ _ _
 channel-loaded m State.done t r memory c =
-    record { shut = c .shut; shutThere = c .shutThere; success = c .success; successThere = c .successThere; notSending = c .notSending; notAwaiting = c .notAwaiting; siloEmpty = c .siloEmpty }
+    record { shut = c .shut; shutThere = c .shutThere; success = c .success; successThere = c .successThere; notSending = c .notSending; notAwaiting = c .notAwaiting; siloEmpty = c .siloEmpty; serial = c .serial; serialThere = c .serialThere }
 
 -- after success R's silo is empty, so that no word is moved
 pub channel-stored : (m : Message) (q : State) (t : Transmitter) (r : Receiver) → mayMove r ≡ true → Channel m q t r

@@ -80,6 +80,8 @@ module _ (m : Message) (x : Ends) where
         notSending = refl;
         notAwaiting = refl;
         siloEmpty = none;
+        serial = o .lasting .serial;
+        serialThere = o .lasting .serialThere;
       })
 
   -- ---- after success T is idle

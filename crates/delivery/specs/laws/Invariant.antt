@@ -78,9 +78,11 @@ Receiving m s r memory =
 
 -- ---- the channel
 
--- what no slice of an open channel changes: where it leads, and that nothing has ended it
-pub record Lasting (m : Message) (destination : ℕ) (truncated success busBusy successThere : Bool) : Type 0 where
+-- what no slice of an open channel changes: where it leads, its serial, and that nothing has ended it
+pub record Lasting (m : Message) (destination number numberThere : ℕ) (truncated success busBusy successThere : Bool) : Type 0 where
   pub latched : destination ≡ m .to
+  pub serial : number ≡ m .serial
+  pub serialThere : numberThere ≡ m .serial
   pub notTruncated : truncated ≡ false
   pub noSuccess : success ≡ false
   -- TBS BSY, which the opening clears
@@ -90,14 +92,14 @@ pub record Lasting (m : Message) (destination : ℕ) (truncated success busBusy 
 -- open and in step: whether T is ending, whether the verdict on a due CRC is awaited, whether R owes a verdict, which is then good
 pub record Open (m : Message) (ending awaiting owed : Bool) (t : Transmitter) (r : Receiver) : Type 0 where
   pub inStep : InStep t r (m .from)
-  pub lasting : Lasting m (t .channel .destination) (r .channel .truncated) (t .outcome .success) (t .outcome .busBusy) (r .outcome .success)
+  pub lasting : Lasting m (t .channel .destination) (t .end .serial) (r .end .serial) (r .channel .truncated) (t .outcome .success) (t .outcome .busBusy) (r .outcome .success)
   pub isEnding : t .channel .ending ≡ ending
   pub isAwaiting : t .channel .awaiting ≡ awaiting
   pub isOwed : r .channel .owed ≡ owed
   pub isGood : r .channel .good ≡ owed
 
 -- closed with success, and neither end begins a message of its own
-pub record Closed (t : Transmitter) (r : Receiver) : Type 0 where
+pub record Closed (m : Message) (t : Transmitter) (r : Receiver) : Type 0 where
   pub shut : t .end .opened ≡ false
   pub shutThere : r .end .opened ≡ false
   pub success : t .outcome .success ≡ true
@@ -105,12 +107,14 @@ pub record Closed (t : Transmitter) (r : Receiver) : Type 0 where
   pub notSending : t .commands .sendWord ≡ false
   pub notAwaiting : r .commands .receiveWord ≡ false
   pub siloEmpty : isEmpty (r .end .silo) ≡ true
+  pub serial : t .end .serial ≡ m .serial
+  pub serialThere : r .end .serial ≡ m .serial
 
 abbrev pub Channel : Message → State → Transmitter → Receiver → Type 0
 Channel m (State.words s c) t r = Open m false false false t r × (t .end .block ≡ c)
 Channel m (State.due s) t r = Open m false true true t r × (t .end .block ≡ 128)
 Channel m State.last t r = Open m true false true t r
-Channel m State.done t r = Closed t r
+Channel m State.done t r = Closed m t r
 
 -- ---- all of it
 

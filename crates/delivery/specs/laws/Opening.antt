@@ -8,6 +8,7 @@ use borrow.Author.Tests.{not-true}
 use lib.ListN.{length}
 use Rattle.answering.specs.Events.{opening as listeningTo}
 use Rattle.answering.specs.laws.Listening as R
+use Rattle.ends.specs.Ends.{raised}
 use Rattle.laws.specs.Pick.{pick}
 use Rattle.receiver.specs.Side as RS
 use Rattle.sending.specs.Choice.{chosen, mayOpen}
@@ -84,14 +85,14 @@ module _ (x : Ends) (from sendingLength receivingLength : ℕ) (shared : Bool) (
           one = one;
           sending = sending-word message 0 (x .transmitter) k more some-word;
           receiving =
-              subst (λ (w : ℕ). Receiving message 1 (R.afterWord (listeningTo (x .receiver) from) w) (x .receiving)) (sym word)
-              (receiving-word message 0 (listeningTo (x .receiver) from) (x .receiving)
+              subst (λ (w : ℕ). Receiving message 1 (R.afterWord (listeningTo (x .receiver) from (raised (x .transmitter .end .serial))) w) (x .receiving)) (sym word)
+              (receiving-word message 0 (listeningTo (x .receiver) from (raised (x .transmitter .end .serial))) (x .receiving)
               (Start.receiving x from sendingLength receivingLength shared c withinR) more (has-room (x .receiver) (c .siloEmpty)));
           channel = (
             record {
               inStep = in-step-opened (x .transmitter) (x .receiver) from sender ready;
               lasting =
-                  record { latched = refl; notTruncated = refl; noSuccess = c .transmitterNoSuccess; notRefused = refl; noSuccessThere = c .receiverNoSuccess };
+                  record { latched = refl; serial = refl; serialThere = refl; notTruncated = refl; noSuccess = c .transmitterNoSuccess; notRefused = refl; noSuccessThere = c .receiverNoSuccess };
               isEnding = refl;
               isAwaiting = refl;
               isOwed = refl;

@@ -52,7 +52,7 @@ open-another : {m : Message} {ending awaiting owed : Bool} {t : Transmitter} {r 
 open-another {m} o other differs =
     rw (o .inStep .listening .opened, o .inStep .listening .sender, ne-eqb (m .from) other differs)
 
-refuses : (t : Transmitter) (r : Receiver) → Closed t r → (sent : Sent) → mayOpen r sent ≡ false
+refuses : {m : Message} (t : Transmitter) (r : Receiver) → Closed m t r → (sent : Sent) → mayOpen r sent ≡ false
 refuses t r c sent = rw (c .notAwaiting, and-false (sent .opening))
 
 module _ (m : Message) (x : Ends) (t : Transmitter) (from mask : ℕ) (parity : Bool) where

@@ -57,4 +57,6 @@ module _ (m : Message) (x : Ends) where
             ∙ ap (paste (m .before) (m .target) (m .content)) all
             ∙ ap (λ (l : List ℕ). take (m .target) (m .before) ++ l ++ drop (m .target + n) (m .before)) (take-length (m .content));
         place = k .place ∙ ap (λ (i : ℕ). (m .target + i) * 2) all;
+        serial = c .serial;
+        serialThere = c .serialThere;
       }

@@ -5,6 +5,7 @@ use mathlib.Core.List.{List}
 use mathlib.Core.Path.{_≡_, refl, _∙_}
 use Prim.Native.Nat.{ℕ, zero, suc, _+_, _≤_}
 use native.Mathlib.Omega.{arith}
+use lib.Dec.{lit<}
 use lib.ListN.{length}
 use Rattle.cells.specs.laws.FitLaws.{fit-in-range}
 use Rattle.cells.specs.Fitted.{putTransmitter, putReceiver}
@@ -34,12 +35,12 @@ abbrev pub ownPut : List ℕ → List ℕ → ℕ → List ℕ
 ownPut setup cells unit = splice cells (unitPlace unit) (encUnit (numberOf setup unit 0) (numberOf setup unit 1) (numberOf setup unit 3))
 
 abbrev pub transmitterPut : List ℕ → List ℕ → ℕ → List ℕ
-transmitterPut setup cells unit = putTransmitter (ownPut setup cells unit) unit T.initial
+transmitterPut setup cells unit = putTransmitter (ownPut setup cells unit) unit (T.initial 0)
 
 abbrev pub receiverPut : List ℕ → List ℕ → ℕ → List ℕ
-receiverPut setup cells unit = putReceiver (transmitterPut setup cells unit) unit R.initial
+receiverPut setup cells unit = putReceiver (transmitterPut setup cells unit) unit (R.initial 0)
 
-module _ (setup cells : List ℕ) (unit : ℕ) (good : UnitGood setup unit) (room : unitPlace unit + 214 ≤ length cells) where
+module _ (setup cells : List ℕ) (unit : ℕ) (good : UnitGood setup unit) (room : unitPlace unit + 216 ≤ length cells) where
   pub master-within : M.Within (M.initial (numberOf setup unit 2))
   master-within = ML.within-initial (numberOf setup unit 2) (good .switch .0) (omega (arith, good .switch .1))
 
@@ -50,17 +51,17 @@ module _ (setup cells : List ℕ) (unit : ℕ) (good : UnitGood setup unit) (roo
   own-length : length (ownPut setup cells unit) ≡ length cells
   own-length = length-splice cells (unitPlace unit) (encUnit (numberOf setup unit 0) (numberOf setup unit 1) (numberOf setup unit 3)) own-fits
 
-  pub transmitter-fits : transmitterPlace unit + length (encTransmitter T.initial) ≤ length (ownPut setup cells unit)
-  transmitter-fits = omega (arith, own-length, length-transmitter T.initial TK.within-initial)
+  pub transmitter-fits : transmitterPlace unit + length (encTransmitter (T.initial 0)) ≤ length (ownPut setup cells unit)
+  transmitter-fits = omega (arith, own-length, length-transmitter (T.initial 0) (TK.within-initial (lit< tt)))
 
   transmitter-length : length (transmitterPut setup cells unit) ≡ length cells
-  transmitter-length = length-splice (ownPut setup cells unit) (transmitterPlace unit) (encTransmitter T.initial) transmitter-fits ∙ own-length
+  transmitter-length = length-splice (ownPut setup cells unit) (transmitterPlace unit) (encTransmitter (T.initial 0)) transmitter-fits ∙ own-length
 
-  pub receiver-fits : receiverPlace unit + length (encReceiver R.initial) ≤ length (transmitterPut setup cells unit)
-  receiver-fits = omega (arith, transmitter-length, length-receiver R.initial RK.within-initial)
+  pub receiver-fits : receiverPlace unit + length (encReceiver (R.initial 0)) ≤ length (transmitterPut setup cells unit)
+  receiver-fits = omega (arith, transmitter-length, length-receiver (R.initial 0) (RK.within-initial (lit< tt)))
 
   receiver-length : length (receiverPut setup cells unit) ≡ length cells
-  receiver-length = length-splice (transmitterPut setup cells unit) (receiverPlace unit) (encReceiver R.initial) receiver-fits ∙ transmitter-length
+  receiver-length = length-splice (transmitterPut setup cells unit) (receiverPlace unit) (encReceiver (R.initial 0)) receiver-fits ∙ transmitter-length
 
   pub master-fits : masterPlace unit + length (encMaster (M.initial (numberOf setup unit 2))) ≤ length (receiverPut setup cells unit)
   master-fits = omega (arith, receiver-length, length-master (M.initial (numberOf setup unit 2)) master-within)

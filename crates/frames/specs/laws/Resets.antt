@@ -30,10 +30,10 @@ use Rattle.frames.specs.laws.Kept.{holder-most}
 
 -- on the sides, as `accesses` and `moves` have them on the cells
 abbrev pub initialisedOn : Sides → ℕ → Sides
-initialisedOn s unit = withTransmitter (withHolder (withMaster s unit (M.initialised (s .master unit))) (released (s .holder) unit)) unit T.initial
+initialisedOn s unit = withTransmitter (withHolder (withMaster s unit (M.initialised (s .master unit))) (released (s .holder) unit)) unit (T.initialised (s .transmitter unit))
 
 abbrev pub resetOn : Sides → ℕ → Sides
-resetOn s unit = withReceiver (initialisedOn s unit) unit R.initial
+resetOn s unit = withReceiver (initialisedOn s unit) unit (R.initialised (s .receiver unit))
 
 abbrev pub periodOn : Sides → ℕ → Sides
 periodOn s unit =
@@ -53,10 +53,12 @@ module _ (cells : List ℕ) (ok : inRange cells ≡ true) (unit : ℕ) (fitted :
       (holder-stored (master-stored l unit fitted refl (M.initialised m) (within-init m (master-within l unit fitted)))
       (released (holderIn cells) unit)
       (either (λ (n : ℕ). n ≤ countIn cells) (eqb (holderIn cells) (unit + 1)) (λ e. omega arith) (λ e. most)))
-      unit fitted refl T.initial TK.within-initial
+      unit fitted refl (T.initialised (transmitterOf cells unit)) (TK.within-initial (transmitter-within l unit fitted .end .serial))
 
   pub reset-leaves : Leaves (At unit) cells (unitReset cells unit) (resetOn (sidesOf cells) unit)
-  reset-leaves = receiver-stored init-leaves unit fitted refl R.initial RK.within-initial
+  reset-leaves =
+      receiver-stored init-leaves unit fitted refl (R.initialised (receiverOf cells unit))
+      (RK.within-initial (receiver-within (stays-at (At unit) ok) unit fitted .end .serial))
 
   -- "Reset does both sides": who is master stays where it is another, or nobody
   pub reset-holder : (holderIn cells ≡ unit + 1 → ⊥) → holderIn (unitReset cells unit) ≡ holderIn cells

@@ -4,6 +4,7 @@ use mathlib.Core.List.{List}
 use mathlib.Core.Path.{_≡_, ap, _∙_}
 use Prim.Native.Nat.{ℕ, _+_, _≤_, _<_, min}
 use native.Mathlib.Omega.{arith}
+use lib.Dec.{lit<}
 use lib.ListN.{length}
 use Rattle.cells.specs.laws.FitLaws.{transmitter-address-stored, receiver-address-stored, memory-length-stored}
 use Rattle.cells.specs.Fitted.{transmitterOf, receiverOf, masterOf}
@@ -27,8 +28,8 @@ use Rattle.transmitter.specs.Side as T
 use Rattle.frames.specs.laws.Fits.{ownPut, transmitterPut, receiverPut, own-fits, transmitter-fits, receiver-fits, master-fits, master-within}
 
 pub record Started (setup : List ℕ) (unit : ℕ) (cells : List ℕ) : Type 0 where
-  pub transmitter : transmitterOf cells unit ≡ T.initial
-  pub receiver : receiverOf cells unit ≡ R.initial
+  pub transmitter : transmitterOf cells unit ≡ T.initial 0
+  pub receiver : receiverOf cells unit ≡ R.initial 0
   pub master : masterOf cells unit ≡ M.initial (numberOf setup unit 2)
   pub transmitterAt : transmitterAddress cells unit ≡ numberOf setup unit 0
   pub receiverAt : receiverAddress cells unit ≡ numberOf setup unit 1
@@ -37,18 +38,18 @@ pub record Started (setup : List ℕ) (unit : ℕ) (cells : List ℕ) : Type 0 w
 -- ---- a unit's block is as it was after a splice that is apart from it
 
 pub record SameBlock (unit : ℕ) (cells after : List ℕ) : Type 0 where
-  pub part : (p n : ℕ) → p + n ≤ 214 → window after (unitPlace unit + p) n ≡ window cells (unitPlace unit + p) n
+  pub part : (p n : ℕ) → p + n ≤ 216 → window after (unitPlace unit + p) n ≡ window cells (unitPlace unit + p) n
   pub own : (j : ℕ) → j < 4 → ownCell after j unit ≡ ownCell cells j unit
 
 module _ (cells : List ℕ) (at : ℕ) (w : List ℕ) (fits : at + length w ≤ length cells) (unit : ℕ) where
-  block-before : unitPlace unit + 214 ≤ at → SameBlock unit cells (splice cells at w)
+  block-before : unitPlace unit + 216 ≤ at → SameBlock unit cells (splice cells at w)
   block-before h =
       record {
         part = λ p n inside. window-before cells at w (unitPlace unit + p) n (omega arith) (omega arith);
         own = λ j inside. cell-before cells at w fits (unitPlace unit + j) (omega arith);
       }
 
-  pub block-past : at + length w ≤ unitPlace unit → unitPlace unit + 214 ≤ length cells → SameBlock unit cells (splice cells at w)
+  pub block-past : at + length w ≤ unitPlace unit → unitPlace unit + 216 ≤ length cells → SameBlock unit cells (splice cells at w)
   block-past h room =
       record {
         part = λ p n inside. window-after cells at w (unitPlace unit + p) (omega arith) (omega arith) n;
@@ -65,9 +66,9 @@ started-again {setup} {cells} {after} {unit} same s =
     let own2 = same .own 2 (omega arith) in
     let own3 = same .own 3 (omega arith) in
     record {
-      transmitter = ap decTransmitter (same .part 4 72 (omega arith)) ∙ s .transmitter;
-      receiver = ap decReceiver (same .part 76 72 (omega arith)) ∙ s .receiver;
-      master = ap decMaster (same .part 148 66 (omega arith)) ∙ s .master;
+      transmitter = ap decTransmitter (same .part 4 73 (omega arith)) ∙ s .transmitter;
+      receiver = ap decReceiver (same .part 77 73 (omega arith)) ∙ s .receiver;
+      master = ap decMaster (same .part 150 66 (omega arith)) ∙ s .master;
       transmitterAt = ap (λ (n : ℕ). min 30 n + 1) own0 ∙ s .transmitterAt;
       receiverAt = ap (λ (n : ℕ). min 30 n + 1) own1 ∙ s .receiverAt;
       memory = rw (own2, own3) (s .memory);
@@ -75,26 +76,26 @@ started-again {setup} {cells} {after} {unit} same s =
 
 -- ---- one unit stored: it is started, and those before it are as they were
 
-module _ (setup cells : List ℕ) (unit : ℕ) (good : UnitGood setup unit) (room : unitPlace unit + 214 ≤ length cells) where
-  pub before-own : (k : ℕ) → unitPlace k + 214 ≤ unitPlace unit → SameBlock k cells (unitOf setup cells unit)
+module _ (setup cells : List ℕ) (unit : ℕ) (good : UnitGood setup unit) (room : unitPlace unit + 216 ≤ length cells) where
+  pub before-own : (k : ℕ) → unitPlace k + 216 ≤ unitPlace unit → SameBlock k cells (unitOf setup cells unit)
   before-own k h =
       same-then
       (same-then
       (same-then (block-before cells (unitPlace unit) _ (own-fits setup cells unit good room) k h)
-      (block-before (ownPut setup cells unit) (transmitterPlace unit) (encTransmitter T.initial) (transmitter-fits setup cells unit good room) k (omega arith)))
-      (block-before (transmitterPut setup cells unit) (receiverPlace unit) (encReceiver R.initial) (receiver-fits setup cells unit good room) k (omega arith)))
+      (block-before (ownPut setup cells unit) (transmitterPlace unit) (encTransmitter (T.initial 0)) (transmitter-fits setup cells unit good room) k (omega arith)))
+      (block-before (transmitterPut setup cells unit) (receiverPlace unit) (encReceiver (R.initial 0)) (receiver-fits setup cells unit good room) k (omega arith)))
       (block-before (receiverPut setup cells unit) (masterPlace unit) (encMaster (M.initial (numberOf setup unit 2))) (master-fits setup cells unit good room) k (omega arith))
 
   pub started : Started setup unit (unitOf setup cells unit)
   started =
-      let t = encTransmitter T.initial in
-      let r = encReceiver R.initial in
+      let t = encTransmitter (T.initial 0) in
+      let r = encReceiver (R.initial 0) in
       let m = encMaster (M.initial (numberOf setup unit 2)) in
       let tf = transmitter-fits setup cells unit good room in
       let rf = receiver-fits setup cells unit good room in
       let mf = master-fits setup cells unit good room in
-      let tl : length t ≡ 72 = length-transmitter T.initial TK.within-initial in
-      let rl : length r ≡ 72 = length-receiver R.initial RK.within-initial in
+      let tl : length t ≡ 73 = length-transmitter (T.initial 0) (TK.within-initial (lit< tt)) in
+      let rl : length r ≡ 73 = length-receiver (R.initial 0) (RK.within-initial (lit< tt)) in
       let ml : length m ≡ 66 = length-master (M.initial (numberOf setup unit 2)) (master-within setup cells unit good room) in
       let own : (j : ℕ) → j < 4 → ownCell (unitOf setup cells unit) j unit ≡ ownCell (ownPut setup cells unit) j unit =
       λ j h.
@@ -108,12 +109,12 @@ module _ (setup cells : List ℕ) (unit : ℕ) (good : UnitGood setup unit) (roo
       record {
         transmitter =
             ap decTransmitter
-            (window-before (receiverPut setup cells unit) (masterPlace unit) m (transmitterPlace unit) 72 (omega arith) (omega arith)
-            ∙ window-before (transmitterPut setup cells unit) (receiverPlace unit) r (transmitterPlace unit) 72 (omega arith) (omega arith))
-            ∙ transmitter-stored (ownPut setup cells unit) (transmitterPlace unit) (omega arith) T.initial TK.within-initial;
+            (window-before (receiverPut setup cells unit) (masterPlace unit) m (transmitterPlace unit) 73 (omega arith) (omega arith)
+            ∙ window-before (transmitterPut setup cells unit) (receiverPlace unit) r (transmitterPlace unit) 73 (omega arith) (omega arith))
+            ∙ transmitter-stored (ownPut setup cells unit) (transmitterPlace unit) (omega arith) (T.initial 0) (TK.within-initial (lit< tt));
         receiver =
-            ap decReceiver (window-before (receiverPut setup cells unit) (masterPlace unit) m (receiverPlace unit) 72 (omega arith) (omega arith))
-            ∙ receiver-stored (transmitterPut setup cells unit) (receiverPlace unit) (omega arith) R.initial RK.within-initial;
+            ap decReceiver (window-before (receiverPut setup cells unit) (masterPlace unit) m (receiverPlace unit) 73 (omega arith) (omega arith))
+            ∙ receiver-stored (transmitterPut setup cells unit) (receiverPlace unit) (omega arith) (R.initial 0) (RK.within-initial (lit< tt));
         master = master-stored (receiverPut setup cells unit) (masterPlace unit) (omega arith) (M.initial (numberOf setup unit 2)) (master-within setup cells unit good room);
         transmitterAt = ap (λ (n : ℕ). min 30 n + 1) (own 0 (omega arith)) ∙ transmitter-address-stored a c d cells unit of (good .transmitter .0) (good .transmitter .1);
         receiverAt = ap (λ (n : ℕ). min 30 n + 1) (own 1 (omega arith)) ∙ receiver-address-stored a c d cells unit of (good .receiver .0) (good .receiver .1);

@@ -41,18 +41,18 @@ module _ {touched : ℕ → Type 0} {cells middle : List ℕ} {s : Sides} (l : L
     here = still-fitted l u fitted
 
     -- a side is no cell of the unit's own
-    side-kept : (o : ℕ) (w : List ℕ) → 4 ≤ o → o + length w ≤ 214 → Kept cells (splice middle (unitPlace u + o) w)
+    side-kept : (o : ℕ) (w : List ℕ) → 4 ≤ o → o + length w ≤ 216 → Kept cells (splice middle (unitPlace u + o) w)
     side-kept o w side part =
         kept-then cells middle (splice middle (unitPlace u + o) w) (l .kept)
         (record { room = length-kept middle u here o w part; count = count-kept middle u here o w part; own = own-kept middle u here o w part side })
 
     -- and no cell of a unit that is not touched
-    others-stay : touched u → (o : ℕ) (w : List ℕ) → o + length w ≤ 214 → OthersStay touched cells (splice middle (unitPlace u + o) w)
+    others-stay : touched u → (o : ℕ) (w : List ℕ) → o + length w ≤ 216 → OthersStay touched cells (splice middle (unitPlace u + o) w)
     others-stay here-too o w part k there apart j h =
         cell-kept middle u here o w part k j h (λ e. absurd (apart (subst⁻¹ touched e here-too))) ∙ l .others k there apart j h
 
     -- of the cells with one part written, the sides are left to say
-    side-stored : touched u → (o : ℕ) (w : List ℕ) (after : Sides) → 4 ≤ o → o + length w ≤ 214
+    side-stored : touched u → (o : ℕ) (w : List ℕ) (after : Sides) → 4 ≤ o → o + length w ≤ 216
         → Holds (splice middle (unitPlace u + o) w) (countIn cells) after → Leaves touched cells (splice middle (unitPlace u + o) w) after
     side-stored here-too o w after side part holds =
         record { ranged = in-range-kept middle u here o w part ∙ l .ranged; kept = side-kept o w side part; holds = holds; others = others-stay here-too o w part }
@@ -73,9 +73,9 @@ module _ {touched : ℕ → Type 0} {cells middle : List ℕ} {s : Sides} (l : L
     pub receiver-stored : touched u → (r : Receiver) → R.Within r → Leaves touched cells (putReceiver middle u r) (withReceiver s u r)
     receiver-stored here-too r h =
         let part = Put.receiver-part r h in
-        side-stored here-too 76 (encReceiver r) _ (lit≤ tt) part
+        side-stored here-too 77 (encReceiver r) _ (lit≤ tt) part
         (record {
-          holder = holder-kept middle u here 76 (encReceiver r) part ∙ l .holds .holder;
+          holder = holder-kept middle u here 77 (encReceiver r) part ∙ l .holds .holder;
           transmitter = λ k there. Put.transmitter-after-receiver middle u here r h k (still-fitted l k there) ∙ l .holds .transmitter k there;
           receiver = λ k there.
               stored (receiverOf (putReceiver middle u r)) (s .receiver) u r (Put.receiver-put middle u here r h) k
@@ -86,9 +86,9 @@ module _ {touched : ℕ → Type 0} {cells middle : List ℕ} {s : Sides} (l : L
     pub master-stored : touched u → (m : Master) → M.Within m → Leaves touched cells (putMaster middle u m) (withMaster s u m)
     master-stored here-too m h =
         let part = Put.master-part m h in
-        side-stored here-too 148 (encMaster m) _ (lit≤ tt) part
+        side-stored here-too 150 (encMaster m) _ (lit≤ tt) part
         (record {
-          holder = holder-kept middle u here 148 (encMaster m) part ∙ l .holds .holder;
+          holder = holder-kept middle u here 150 (encMaster m) part ∙ l .holds .holder;
           transmitter = λ k there. Put.transmitter-after-master middle u here m h k (still-fitted l k there) ∙ l .holds .transmitter k there;
           receiver = λ k there. Put.receiver-after-master middle u here m h k (still-fitted l k there) ∙ l .holds .receiver k there;
           master = λ k there.

@@ -10,8 +10,9 @@ use Rattle.words.specs.Answers.{readNumber, readWord, moveNumber, moveValue}
 use Rattle.words.specs.declared.answers.Move.{Move}
 use Rattle.words.specs.declared.answers.Read.{Read}
 use Rattle.pcl.specs.Face.{packed, packedMove}
-use Rattle.pcl.specs.Numbers.{slotNumber, givenValue, slotValue, levelPacked, movePacked}
+use Rattle.pcl.specs.Numbers.{slotNumber, givenValue, slotValue, levelPacked, movePacked, serialPacked}
 use Rattle.pcl.specs.declared.answers.LevelCall.{LevelCall}
+use Rattle.pcl.specs.declared.answers.SerialCall.{SerialCall}
 use Rattle.pcl.specs.declared.answers.MoveCall.{MoveCall}
 
 abbrev pub foundPacked : Read → ℕ
@@ -37,5 +38,8 @@ packed-move n answer cells memory outcome e f = rw e (ap packedMove f)
 pub packed-level : {n : ℕ} {answer outcome : LevelCall} → n ≡ levelPacked answer → answer ≡ outcome → n ≡ levelPacked outcome
 packed-level e f = e ∙ ap levelPacked f
 
+pub packed-serial : {n : ℕ} {answer outcome : SerialCall} → n ≡ serialPacked answer → answer ≡ outcome → n ≡ serialPacked outcome
+packed-serial e f = e ∙ ap serialPacked f
+
 -- what `search faces` cites
-pub ruleset faces = (tt, packed-as, packed-move, packed-level)
+pub ruleset faces = (tt, packed-as, packed-move, packed-level, packed-serial)

@@ -42,13 +42,13 @@ acts-is t =
 -- ---- by the cells of a unit
 
 module _ (cells : List ℕ) (unit : ℕ) where
-  at : (k : ℕ) → k < 72 → cell (window cells (transmitterPlace unit) 72) k ≡ cell cells (transmitterPlace unit + k)
-  at k h = cell-window cells (transmitterPlace unit) 72 k h
+  at : (k : ℕ) → k < 73 → cell (window cells (transmitterPlace unit) 73) k ≡ cell cells (transmitterPlace unit + k)
+  at k h = cell-window cells (transmitterPlace unit) 73 k h
 
   pub acts-in-place : actsBy (cell cells (transmitterPlace unit + HELD)) (cell cells (transmitterPlace unit + CONTROL)) (cell cells (transmitterPlace unit + STATUS)) ≡ actsOn (chosen (transmitterOf cells unit))
   acts-in-place =
       rw (← at HELD (lit< tt), ← at CONTROL (lit< tt), ← at STATUS (lit< tt))
-      (let w = window cells (transmitterPlace unit) 72 in
+      (let w = window cells (transmitterPlace unit) 73 in
       sym (acts-is (decTransmitter w) ∙ rw (← none-held (cell w HELD), ← no-fault (cell w STATUS)) refl))
 
   pub addressed-in-place : addressedBy (cell cells (transmitterPlace unit + OWN)) (cell cells (transmitterPlace unit + CONTROL)) (cell cells (transmitterPlace unit + STATUS)) ≡ destinationOf (transmitterOf cells unit)

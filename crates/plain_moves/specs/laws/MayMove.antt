@@ -25,17 +25,17 @@ room held =
     by (ltb held 64) (λ e. rw (e, lt-ltb (min 64 held) 64 (omega (arith, ltb-true held 64 e))))
     (λ e. rw (e, le-ltb (min 64 held) 64 (omega (arith, ltb-false held 64 e))))
 
-module _ (held block own low count control status crc : ℕ) (silo : List ℕ) where
+module _ (held block own low count control status crc serial : ℕ) (silo : List ℕ) where
   pub may-out : bitAt control 14 && bitAt control 1 && eqb (bits status 9 6) 0 && ltb held 64 && not (bitAt control 7) && not (bitAt status 8 && bitAt status 6)
-      ≡ T.mayMove (decTransmitter (side held block own low count control status crc silo))
+      ≡ T.mayMove (decTransmitter (side held block own low count control status crc serial silo))
   may-out = rw (no-fault status, room held)
 
-  pub may-in : bitAt control 14 && not (eqb held 0) && eqb (bits status 9 6) 0 ≡ R.mayMove (decReceiver (side held block own low count control status crc silo))
+  pub may-in : bitAt control 14 && not (eqb held 0) && eqb (bits status 9 6) 0 ≡ R.mayMove (decReceiver (side held block own low count control status crc serial silo))
   may-in = rw (no-fault status, none-held held)
 
 -- ---- at a place of the cells
 
-module _ (cells : List ℕ) (at : ℕ) (fits : at + 72 ≤ length cells) where
+module _ (cells : List ℕ) (at : ℕ) (fits : at + 73 ≤ length cells) where
   abbrev held : ℕ
   held = cell cells at
 
@@ -48,10 +48,10 @@ module _ (cells : List ℕ) (at : ℕ) (fits : at + 72 ≤ length cells) where
   pub may-out-at : bitAt control 14 && bitAt control 1 && eqb (bits status 9 6) 0 && ltb held 64 && not (bitAt control 7) && not (bitAt status 8 && bitAt status 6)
       ≡ T.mayMove (transmitterAt cells at)
   may-out-at =
-      may-out held (cell cells (at + 1)) (cell cells (at + 2)) (cell cells (at + 3)) (cell cells (at + 4)) control status (cell cells (at + 7)) (window cells (at + 8) 64)
+      may-out held (cell cells (at + 1)) (cell cells (at + 2)) (cell cells (at + 3)) (cell cells (at + 4)) control status (cell cells (at + 7)) (cell cells (at + 8)) (window cells (at + 9) 64)
       ∙ ap (λ (w : List ℕ). T.mayMove (decTransmitter w)) (sym (head-and-silo cells at fits))
 
   pub may-in-at : bitAt control 14 && not (eqb held 0) && eqb (bits status 9 6) 0 ≡ R.mayMove (receiverAt cells at)
   may-in-at =
-      may-in held (cell cells (at + 1)) (cell cells (at + 2)) (cell cells (at + 3)) (cell cells (at + 4)) control status (cell cells (at + 7)) (window cells (at + 8) 64)
+      may-in held (cell cells (at + 1)) (cell cells (at + 2)) (cell cells (at + 3)) (cell cells (at + 4)) control status (cell cells (at + 7)) (cell cells (at + 8)) (window cells (at + 9) 64)
       ∙ ap (λ (w : List ℕ). R.mayMove (decReceiver w)) (sym (head-and-silo cells at fits))

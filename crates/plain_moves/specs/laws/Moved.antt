@@ -71,15 +71,15 @@ same-stored memory at r w = rw (r, w)
 
 -- ---- the cells of either side: a word more, a word fewer
 
-module _ (held block own low count control status crc : ℕ) (silo : List ℕ) where
+module _ (held block own low count control status crc serial : ℕ) (silo : List ℕ) where
   abbrev before : List ℕ
-  before = side held block own low count control status crc silo
+  before = side held block own low count control status crc serial silo
 
   abbrev pub oneMore : ℕ → List ℕ
-  oneMore word = side (held + 1) block own (low + 1) (count + 1) control status crc (set silo held word)
+  oneMore word = side (held + 1) block own (low + 1) (count + 1) control status crc serial (set silo held word)
 
   abbrev pub oneFewer : List ℕ
-  oneFewer = side (held - 1) block own (low + 1) (count + 1) control status crc (shifted silo)
+  oneFewer = side (held - 1) block own (low + 1) (count + 1) control status crc serial (shifted silo)
 
   module _ (cells64 : length silo ≡ 64) where
     silo-put : (word : ℕ) → held < 64 → put 64 (siloIn before) word ≡ siloIn (oneMore word)

@@ -72,9 +72,9 @@ answeredThere m = (m .0 .answer, encReceiver (m .0 .side), m .1)
 
 -- ---- over numbers
 
-module _ (held block own low count control status crc : ℕ) (silo : List ℕ) where
+module _ (held block own low count control status crc serial : ℕ) (silo : List ℕ) where
   abbrev before : List ℕ
-  before = side held block own low count control status crc silo
+  before = side held block own low count control status crc serial silo
 
   -- of what may move
   out-says : T.mayMove (decTransmitter before) ≡ true → (bitAt control 14 ≡ true) × (held < 64)
@@ -85,7 +85,7 @@ module _ (held block own low count control status crc : ℕ) (silo : List ℕ) w
       let d = ltb held 64 in
       let e = not (bitAt control 7) in
       let f = not (bitAt status 8 && bitAt status 6) in
-      let abcd = left-of (a && b && c && d) e (left-of (a && b && c && d && e) f (may-out held block own low count control status crc silo ∙ may)) in
+      let abcd = left-of (a && b && c && d) e (left-of (a && b && c && d && e) f (may-out held block own low count control status crc serial silo ∙ may)) in
       (left-of a b (left-of (a && b) c (left-of (a && b && c) d abcd)), ltb-true held 64 (right-of (a && b && c) d abcd))
 
   in-says : R.mayMove (decReceiver before) ≡ true → 1 ≤ held
@@ -93,43 +93,43 @@ module _ (held block own low count control status crc : ℕ) (silo : List ℕ) w
       let a = bitAt control 14 in
       let b = not (eqb held 0) in
       let c = eqb (bits status 9 6) 0 in
-      let ab = left-of (a && b) c (may-in held block own low count control status crc silo ∙ may) in
+      let ab = left-of (a && b) c (may-in held block own low count control status crc serial silo ∙ may) in
       let some : held ≡ 0 → ⊥ = eqb-false held 0 (not-true (eqb held 0) (right-of a b ab)) in
       omega arith
 
-  module _ (control16 : control < 2 ^ 16) (status16 : status < 2 ^ 16) (crc16 : crc < 2 ^ 16) (cells64 : length silo ≡ 64) (memory : List ℕ) (fitted : ℕ)
+  module _ (control16 : control < 2 ^ 16) (status16 : status < 2 ^ 16) (crc16 : crc < 2 ^ 16) (serial16 : serial < 2 ^ 16) (cells64 : length silo ≡ 64) (memory : List ℕ) (fitted : ℕ)
       (there : wordAt low control < fitted) where
     pub out-moved : Plain block own 32 low count control (bitAt control 13 || bitAt status 6) → (status / 2 ^ 8 % 2 ≡ 1 → ⊥) → status < 2 ^ 15
         → T.mayMove (decTransmitter before) ≡ true
         → _≡_ {A = Move × List ℕ} (answered (T.moved (decTransmitter before) memory fitted))
-        (Move.Done, oneMore held block own low count control status crc silo (getD memory (wordAt low control) 0))
+        (Move.Done, oneMore held block own low count control status crc serial silo (getD memory (wordAt low control) 0))
     out-moved p going settled may =
         let room = out-says may .1 in
         let word = getD memory (wordAt low control) 0 in
         let e : bitAt status 8 ≡ false = ne-eqb (bits status 8 1) 1 going in
         let a : bitAt status 15 ≡ false = ne-eqb (bits status 15 1) 1 (omega arith) in
-        ap answered (transmitter-moved held block own low count control status crc silo cells64 (p .low15) (p .count15) (p .loaded) (p .goes) memory fitted there may (out-says may .0) room)
+        ap answered (transmitter-moved held block own low count control status crc serial silo cells64 (p .low15) (p .count15) (p .loaded) (p .goes) memory fitted there may (out-says may .0) room)
         ∙ ap (λ (l : List ℕ). (Move.Done, l))
-        (transmitter-kept (held + 1) block own (low + 1) (count + 1) control status crc (set silo held word)
-        (record { most = omega arith; since = p .since; low15 = omega arith; count15 = omega arith; control16 = control16; status16 = status16; crc16 = crc16; cells64 = length-set silo held word ∙ cells64 })
+        (transmitter-kept (held + 1) block own (low + 1) (count + 1) control status crc serial (set silo held word)
+        (record { most = omega arith; since = p .since; low15 = omega arith; count15 = omega arith; control16 = control16; status16 = status16; crc16 = crc16; serial16 = serial16; cells64 = length-set silo held word ∙ cells64 })
         (p .single) (p .marked) (rw e) (rw a))
 
     pub in-moved : Plain block own 1 low count control (bitAt status 4) → held ≤ 64 → R.mayMove (decReceiver before) ≡ true
-        → R.moved (decReceiver before) memory fitted ≡ (R.doneWith (decReceiver (oneFewer held block own low count control status crc silo)), set memory (wordAt low control) (getD silo 0 0))
+        → R.moved (decReceiver before) memory fitted ≡ (R.doneWith (decReceiver (oneFewer held block own low count control status crc serial silo)), set memory (wordAt low control) (getD silo 0 0))
     in-moved p most may =
-        receiver-moved held block own low count control status crc silo cells64 (p .low15) (p .count15) (p .loaded) (p .goes) memory fitted there may (in-says may) most
+        receiver-moved held block own low count control status crc serial silo cells64 (p .low15) (p .count15) (p .loaded) (p .goes) memory fitted there may (in-says may) most
 
     pub in-kept : Plain block own 1 low count control (bitAt status 4) → held ≤ 64
-        → encReceiver (decReceiver (oneFewer held block own low count control status crc silo)) ≡ oneFewer held block own low count control status crc silo
+        → encReceiver (decReceiver (oneFewer held block own low count control status crc serial silo)) ≡ oneFewer held block own low count control status crc serial silo
     in-kept p most =
         let none : own ≡ 0 = omega arith in
-        receiver-kept (held - 1) block own (low + 1) (count + 1) control status crc (shifted silo)
-        (record { most = omega arith; since = p .since; low15 = omega arith; count15 = omega arith; control16 = control16; status16 = status16; crc16 = crc16; cells64 = simp (length-append, length-drop) (omega arith) })
+        receiver-kept (held - 1) block own (low + 1) (count + 1) control status crc serial (shifted silo)
+        (record { most = omega arith; since = p .since; low15 = omega arith; count15 = omega arith; control16 = control16; status16 = status16; crc16 = crc16; serial16 = serial16; cells64 = simp (length-append, length-drop) (omega arith) })
         (rw none) (p .marked)
 
 -- ---- at a place of the cells
 
-module _ (cells : List ℕ) (at : ℕ) (fits : at + 72 ≤ length cells) where
+module _ (cells : List ℕ) (at : ℕ) (fits : at + 73 ≤ length cells) where
   abbrev held : ℕ
   held = cell cells at
 
@@ -143,21 +143,21 @@ module _ (cells : List ℕ) (at : ℕ) (fits : at + 72 ≤ length cells) where
   status = cell cells (at + 6)
 
   abbrev silo : List ℕ
-  silo = window cells (at + 8) 64
+  silo = window cells (at + 9) 64
 
   cells64 : length silo ≡ 64
-  cells64 = length-window cells (at + 8) 64 (omega arith)
+  cells64 = length-window cells (at + 9) 64 (omega arith)
 
   -- a transmitter that may move has room
   pub out-room : T.mayMove (transmitterAt cells at) ≡ true → held < 64
   out-room may =
-      out-says held (cell cells (at + 1)) (cell cells (at + 2)) low (cell cells (at + 4)) control status (cell cells (at + 7)) silo
+      out-says held (cell cells (at + 1)) (cell cells (at + 2)) low (cell cells (at + 4)) control status (cell cells (at + 7)) (cell cells (at + 8)) silo
       (ap (λ (w : List ℕ). T.mayMove (decTransmitter w)) (sym (head-and-silo cells at fits)) ∙ may) .1
 
   -- a receiver that may move has a word
   pub in-some : R.mayMove (receiverAt cells at) ≡ true → 1 ≤ held
   in-some may =
-      in-says held (cell cells (at + 1)) (cell cells (at + 2)) low (cell cells (at + 4)) control status (cell cells (at + 7)) silo
+      in-says held (cell cells (at + 1)) (cell cells (at + 2)) low (cell cells (at + 4)) control status (cell cells (at + 7)) (cell cells (at + 8)) silo
       (ap (λ (w : List ℕ). R.mayMove (decReceiver w)) (sym (head-and-silo cells at fits)) ∙ may)
 
   module _ (words : (i : ℕ) → cell cells i < 2 ^ 16) (memory : List ℕ) (fitted : ℕ) (there : wordAt low control < fitted) where
@@ -168,24 +168,24 @@ module _ (cells : List ℕ) (at : ℕ) (fits : at + 72 ≤ length cells) where
     out-plain p going settled may =
         let same = head-and-silo cells at fits in
         ap (λ (w : List ℕ). answered (T.moved (decTransmitter w) memory fitted)) same
-        ∙ out-moved held (cell cells (at + 1)) (cell cells (at + 2)) low (cell cells (at + 4)) control status (cell cells (at + 7)) silo
-        (words (at + 5)) (words (at + 6)) (words (at + 7)) cells64 memory fitted there p going settled
+        ∙ out-moved held (cell cells (at + 1)) (cell cells (at + 2)) low (cell cells (at + 4)) control status (cell cells (at + 7)) (cell cells (at + 8)) silo
+        (words (at + 5)) (words (at + 6)) (words (at + 7)) (words (at + 8)) cells64 memory fitted there p going settled
         (ap (λ (w : List ℕ). T.mayMove (decTransmitter w)) (sym same) ∙ may)
 
     pub in-plain : Plain (cell cells (at + 1)) (cell cells (at + 2)) 1 low (cell cells (at + 4)) control (bitAt status 4)
         → held ≤ 64 → R.mayMove (receiverAt cells at) ≡ true
         → _≡_ {A = Move × List ℕ × List ℕ} (answeredThere (R.moved (receiverAt cells at) memory fitted))
-        (Move.Done, headMoved cells at (held - 1) ++ shifted silo, set memory (wordAt low control) (cell cells (at + 8)))
+        (Move.Done, headMoved cells at (held - 1) ++ shifted silo, set memory (wordAt low control) (cell cells (at + 9)))
     in-plain p most may =
         let same = head-and-silo cells at fits in
-        let z : at + 8 + 0 ≡ at + 8 = omega arith in
-        let first : getD silo 0 0 ≡ cell cells (at + 8) = cell-window cells (at + 8) 64 0 (lit< tt) ∙ ap (cell cells) z in
+        let z : at + 9 + 0 ≡ at + 9 = omega arith in
+        let first : getD silo 0 0 ≡ cell cells (at + 9) = cell-window cells (at + 9) 64 0 (lit< tt) ∙ ap (cell cells) z in
         let moved =
-        in-moved held (cell cells (at + 1)) (cell cells (at + 2)) low (cell cells (at + 4)) control status (cell cells (at + 7)) silo
-        (words (at + 5)) (words (at + 6)) (words (at + 7)) cells64 memory fitted there p most (ap (λ (w : List ℕ). R.mayMove (decReceiver w)) (sym same) ∙ may) in
+        in-moved held (cell cells (at + 1)) (cell cells (at + 2)) low (cell cells (at + 4)) control status (cell cells (at + 7)) (cell cells (at + 8)) silo
+        (words (at + 5)) (words (at + 6)) (words (at + 7)) (words (at + 8)) cells64 memory fitted there p most (ap (λ (w : List ℕ). R.mayMove (decReceiver w)) (sym same) ∙ may) in
         let kept =
-        in-kept held (cell cells (at + 1)) (cell cells (at + 2)) low (cell cells (at + 4)) control status (cell cells (at + 7)) silo
-        (words (at + 5)) (words (at + 6)) (words (at + 7)) cells64 memory fitted there p most in
+        in-kept held (cell cells (at + 1)) (cell cells (at + 2)) low (cell cells (at + 4)) control status (cell cells (at + 7)) (cell cells (at + 8)) silo
+        (words (at + 5)) (words (at + 6)) (words (at + 7)) (words (at + 8)) cells64 memory fitted there p most in
         ap (λ (w : List ℕ). answeredThere (R.moved (decReceiver w) memory fitted)) same
         ∙ ap answeredThere moved
         ∙ ap (λ (l : List ℕ × List ℕ). (Move.Done, l .0, l .1)) (same-pair kept (ap (set memory (wordAt low control)) first))

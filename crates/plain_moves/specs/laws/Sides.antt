@@ -1,4 +1,4 @@
--- A side's 72 cells in their normal form: read as a side and written again, they are as they were.
+-- A side's 73 cells in their normal form: read as a side and written again, they are as they were.
 -- Assumes nothing.
 use mathlib.Core.Bool.{Bool, true, _&&_, _||_}
 use mathlib.Core.Path.{_≡_, refl, ap, sym, _∙_}
@@ -18,12 +18,12 @@ use Rattle.laws.specs.laws.Fields.{whole, bit-on}
 use Rattle.words.specs.Address.{extensionOf}
 use Rattle.words.specs.laws.Registers.{controlBits, controlFields, control-is, statusBits, statusFields, status-is}
 
--- the eight cells of a head, and the silo's
-abbrev pub side : ℕ → ℕ → ℕ → ℕ → ℕ → ℕ → ℕ → ℕ → List ℕ → List ℕ
-side held block own low count control status crc silo = (held ∷ block ∷ own ∷ low ∷ count ∷ control ∷ status ∷ crc ∷ []) ++ silo
+-- the nine cells of a head, and the silo's
+abbrev pub side : ℕ → ℕ → ℕ → ℕ → ℕ → ℕ → ℕ → ℕ → ℕ → List ℕ → List ℕ
+side held block own low count control status crc serial silo = (held ∷ block ∷ own ∷ low ∷ count ∷ control ∷ status ∷ crc ∷ serial ∷ []) ++ silo
 
 -- each number within its limits: it reads as it stands
-pub record Normal (held block low count control status crc : ℕ) (silo : List ℕ) : Type 0 where
+pub record Normal (held block low count control status crc serial : ℕ) (silo : List ℕ) : Type 0 where
   pub most : held ≤ 64
   pub since : block ≤ 128
   pub low15 : low < 2 ^ 15
@@ -31,6 +31,7 @@ pub record Normal (held block low count control status crc : ℕ) (silo : List �
   pub control16 : control < 2 ^ 16
   pub status16 : status < 2 ^ 16
   pub crc16 : crc < 2 ^ 16
+  pub serial16 : serial < 2 ^ 16
   pub cells64 : length silo ≡ 64
 
 -- ---- the two cells of bits, taken apart and joined again
@@ -49,20 +50,20 @@ status-whole s h =
 
 -- ---- a side
 
-same-cells : {held held' block block' own own' low low' count count' control control' status status' crc crc' : ℕ} {silo silo' : List ℕ}
-    → held ≡ held' → block ≡ block' → own ≡ own' → low ≡ low' → count ≡ count' → control ≡ control' → status ≡ status' → crc ≡ crc' → silo ≡ silo'
-    → side held block own low count control status crc silo ≡ side held' block' own' low' count' control' status' crc' silo'
-same-cells h b o l n c s k w = rw (h, b, o, l, n, c, s, k, w)
+same-cells : {held held' block block' own own' low low' count count' control control' status status' crc crc' serial serial' : ℕ} {silo silo' : List ℕ}
+    → held ≡ held' → block ≡ block' → own ≡ own' → low ≡ low' → count ≡ count' → control ≡ control' → status ≡ status' → crc ≡ crc' → serial ≡ serial' → silo ≡ silo'
+    → side held block own low count control status crc serial silo ≡ side held' block' own' low' count' control' status' crc' serial' silo'
+same-cells h b o l n c s k i w = rw (h, b, o, l, n, c, s, k, i, w)
 
-module _ (held block own low count control status crc : ℕ) (silo : List ℕ) (h : Normal held block low count control status crc silo) where
+module _ (held block own low count control status crc serial : ℕ) (silo : List ℕ) (h : Normal held block low count control status crc serial silo) where
   abbrev cells : List ℕ
-  cells = side held block own low count control status crc silo
+  cells = side held block own low count control status crc serial silo
 
   -- what both ends have. Whether they are open, and their mark, stand in the cells of bits.
   end-kept : (opened mark : Bool) (own' control' status' : ℕ) → own' ≡ own → control' ≡ control → status' ≡ status
       → windowOf (endIn cells opened mark) own' control' status' ≡ cells
   end-kept opened mark own' control' status' o c s =
-      same-cells (omega arith) (omega arith) o (omega arith) (omega arith) c s (omega arith) (take-all 64 silo (omega arith))
+      same-cells (omega arith) (omega arith) o (omega arith) (omega arith) c s (omega arith) (omega arith) (take-all 64 silo (omega arith))
 
   -- the mark that is read is the one that stands there
   control-kept : (mark : Bool) → mark ≡ bitAt control 3

@@ -44,6 +44,6 @@ status-with s h a b at6 at8 at15 =
     (whole s (field 4 0 ∷ field 1 0 ∷ field 1 0 ∷ field 1 0 ∷ field 1 0 ∷ field 1 0 ∷ field 1 0 ∷ field 1 0 ∷ field 1 0 ∷ field 1 0 ∷ field 1 0 ∷ field 1 0 ∷ field 1 0 ∷ []) h))
 
 -- a window of its cells is the same where each is
-pub same : {a a' b b' c c' d d' e e' f f' g g' h h' : ℕ} {s s' : List ℕ} → a ≡ a' → b ≡ b' → c ≡ c' → d ≡ d' → e ≡ e' → f ≡ f' → g ≡ g' → h ≡ h' → s ≡ s'
-    → _≡_ {A = List ℕ} (a ∷ b ∷ c ∷ d ∷ e ∷ f ∷ g ∷ h ∷ s) (a' ∷ b' ∷ c' ∷ d' ∷ e' ∷ f' ∷ g' ∷ h' ∷ s')
-same a b c d e f g h s = rw (a, b, c, d, e, f, g, h, s)
+pub same : {a a' b b' c c' d d' e e' f f' g g' h h' i i' : ℕ} {s s' : List ℕ} → a ≡ a' → b ≡ b' → c ≡ c' → d ≡ d' → e ≡ e' → f ≡ f' → g ≡ g' → h ≡ h' → i ≡ i' → s ≡ s'
+    → _≡_ {A = List ℕ} (a ∷ b ∷ c ∷ d ∷ e ∷ f ∷ g ∷ h ∷ i ∷ s) (a' ∷ b' ∷ c' ∷ d' ∷ e' ∷ f' ∷ g' ∷ h' ∷ i' ∷ s')
+same a b c d e f g h i s = rw (a, b, c, d, e, f, g, h, i, s)

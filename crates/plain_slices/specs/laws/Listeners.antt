@@ -31,9 +31,9 @@ open-mark : (mark : Bool) → (mark && true) ≡ mark
 open-mark true = refl
 open-mark false = refl
 
-module _ (held block own low count control status crc : ℕ) (silo : List ℕ) where
+module _ (held block own low count control status crc serial : ℕ) (silo : List ℕ) where
   abbrev r : Receiver
-  r = decReceiver (held ∷ block ∷ own ∷ low ∷ count ∷ control ∷ status ∷ crc ∷ silo)
+  r = decReceiver (held ∷ block ∷ own ∷ low ∷ count ∷ control ∷ status ∷ crc ∷ serial ∷ silo)
 
   -- a receiver whose own cell, load and bits are those of the window, with what a slice may change
   abbrev listener : Silo → ℕ → ℕ → ℕ → ℕ → Bool → Bool → Bool → Receiver
@@ -47,6 +47,7 @@ module _ (held block own low count control status crc : ℕ) (silo : List ℕ) w
           block = since;
           crc = check;
           mark = mark;
+          serial = serial % 2 ^ 16;
         };
         commands = commandsIn control;
         modes = modesIn control;
@@ -66,7 +67,7 @@ module _ (held block own low count control status crc : ℕ) (silo : List ℕ) w
     pub opened : status / 2 ^ 4 % 2 ≡ 1
     pub clear : status < 2 ^ 9
 
-  module _ (k : Listens) (crc16 : crc < 2 ^ 16) (long : length silo ≡ 64) where
+  module _ (k : Listens) (crc16 : crc < 2 ^ 16) (serial16 : serial < 2 ^ 16) (long : length silo ≡ 64) where
     pub listening : (from : ℕ) → control / 2 ^ 8 % 2 ^ 5 ≡ from → Listening r from
     listening from e =
         let accepting = k .accepting in
@@ -78,7 +79,7 @@ module _ (held block own low count control status crc : ℕ) (silo : List ℕ) w
 
     listener-window : (words : Silo) (a b since check : ℕ) (mark owed good : Bool) → encReceiver (listener words a b since check mark owed good)
         ≡ words .held ∷ since ∷ own ∷ low ∷ count ∷ (control - control / 2 ^ 3 % 2 * 2 ^ 3 + bit mark * 2 ^ 3)
-        ∷ (status + a + b * 2 ^ 2 + bit owed * 2 ^ 6 + bit good * 2 ^ 8 - (status % 2 ^ 4 + status / 2 ^ 6 % 2 * 2 ^ 6 + status / 2 ^ 8 % 2 * 2 ^ 8)) ∷ check ∷ words .cells
+        ∷ (status + a + b * 2 ^ 2 + bit owed * 2 ^ 6 + bit good * 2 ^ 8 - (status % 2 ^ 4 + status / 2 ^ 6 % 2 * 2 ^ 6 + status / 2 ^ 8 % 2 * 2 ^ 8)) ∷ check ∷ serial ∷ words .cells
     listener-window words a b since check mark owed good =
         let extension : (bits control 4 2 * 2 ^ 16 + low % 2 ^ 15 * 2) / 2 ^ 16 ≡ bits control 4 2 = omega arith in
         let low15 = k .low15 in
@@ -87,7 +88,7 @@ module _ (held block own low count control status crc : ℕ) (silo : List ℕ) w
         let clear = k .clear in
         let e15 : status / 2 ^ 15 % 2 ≡ 0 = omega arith in
         same refl refl (flag-back own (k .flag)) (omega arith) (omega arith) (rw extension (control-with control (omega arith) (bit mark)))
-        (status-with status (omega arith) a b (bit owed) (bit good) 0 ∙ rw e15 (omega arith)) refl refl
+        (status-with status (omega arith) a b (bit owed) (bit good) 0 ∙ rw e15 (omega arith)) refl (omega arith) refl
 
     abbrev words : Silo
     words = r .end .silo
@@ -101,7 +102,7 @@ module _ (held block own low count control status crc : ℕ) (silo : List ℕ) w
 
     -- it stored a word
     pub window-stored : (word : ℕ) → held < 64 → block < 128 → encReceiver (afterWord r word)
-        ≡ (held + 1) ∷ (block + 1) ∷ own ∷ low ∷ count ∷ (control - control / 2 ^ 3 % 2 * 2 ^ 3) ∷ (status / 2 ^ 4 * 2 ^ 4 + 14) ∷ crcWord crc word ∷ set silo held word
+        ≡ (held + 1) ∷ (block + 1) ∷ own ∷ low ∷ count ∷ (control - control / 2 ^ 3 % 2 * 2 ^ 3) ∷ (status / 2 ^ 4 * 2 ^ 4 + 14) ∷ crcWord crc word ∷ serial ∷ set silo held word
     window-stored word room short =
         let clear = k .clear in
         let is : afterWord r word ≡ listener (put 64 words word) 2 3 (min 128 block + 1) (crcWord (crc % 2 ^ 16) word) false (bitAt status 6) (bitAt status 8) =
@@ -109,11 +110,11 @@ module _ (held block own low count control status crc : ℕ) (silo : List ℕ) w
         ap encReceiver is
         ∙ listener-window (put 64 words word) 2 3 (min 128 block + 1) (crcWord (crc % 2 ^ 16) word) false (bitAt status 6) (bitAt status 8)
         ∙ same (rw (has-room room) (omega arith)) (omega arith) refl refl refl (omega arith) (rw (bit-on (status / 2 ^ 6), bit-on (status / 2 ^ 8)) (omega arith))
-        (ap (λ (n : ℕ). crcWord n word) (omega arith)) (rw (has-room room, cells) (ap (λ (n : ℕ). set silo n word) (omega arith)))
+        (ap (λ (n : ℕ). crcWord n word) (omega arith)) refl (rw (has-room room, cells) (ap (λ (n : ℕ). set silo n word) (omega arith)))
 
     -- it took a due CRC, with no verdict owed before
     pub window-taken : block ≡ 128 → status / 2 ^ 6 % 2 ≡ 0 → status / 2 ^ 8 % 2 ≡ 0 → encReceiver (afterCrc r 2)
-        ≡ held ∷ block ∷ own ∷ low ∷ count ∷ control ∷ (status / 2 ^ 4 * 2 ^ 4 + 6 + 2 ^ 6 + 2 ^ 8) ∷ crc ∷ silo
+        ≡ held ∷ block ∷ own ∷ low ∷ count ∷ control ∷ (status / 2 ^ 4 * 2 ^ 4 + 6 + 2 ^ 6 + 2 ^ 8) ∷ crc ∷ serial ∷ silo
     window-taken full free fresh =
         let most = k .most in
         let clear = k .clear in
@@ -122,11 +123,11 @@ module _ (held block own low count control status crc : ℕ) (silo : List ℕ) w
         rw (k .opened, e15, open-mark (bitAt control 3)) refl in
         ap encReceiver is
         ∙ listener-window words 2 1 (min 128 block) (crc % 2 ^ 16) (bitAt control 3) true true
-        ∙ same (omega arith) (omega arith) refl refl refl (rw (bit-on (control / 2 ^ 3)) (omega arith)) (omega arith) (omega arith) cells
+        ∙ same (omega arith) (omega arith) refl refl refl (rw (bit-on (control / 2 ^ 3)) (omega arith)) (omega arith) (omega arith) refl cells
 
     -- it found it good
     pub window-restarted : status / 2 ^ 6 % 2 ≡ 1 → status / 2 ^ 8 % 2 ≡ 1 → encReceiver (afterDue r)
-        ≡ held ∷ 0 ∷ own ∷ low ∷ count ∷ control ∷ (status / 2 ^ 4 * 2 ^ 4 + 14 - (2 ^ 6 + 2 ^ 8)) ∷ 0 ∷ silo
+        ≡ held ∷ 0 ∷ own ∷ low ∷ count ∷ control ∷ (status / 2 ^ 4 * 2 ^ 4 + 14 - (2 ^ 6 + 2 ^ 8)) ∷ 0 ∷ serial ∷ silo
     window-restarted owed good =
         let most = k .most in
         let clear = k .clear in
@@ -135,4 +136,4 @@ module _ (held block own low count control status crc : ℕ) (silo : List ℕ) w
         rw (k .opened, e15, open-mark (bitAt control 3)) refl in
         ap encReceiver is
         ∙ listener-window words 2 3 0 0 (bitAt control 3) false false
-        ∙ same (omega arith) refl refl refl refl (rw (bit-on (control / 2 ^ 3)) (omega arith)) (omega arith) refl cells
+        ∙ same (omega arith) refl refl refl refl (rw (bit-on (control / 2 ^ 3)) (omega arith)) (omega arith) refl refl cells

@@ -47,12 +47,12 @@ use Rattle.plain_slices.specs.laws.Talkers as Talker
 abbrev pub TalksAt : List ℕ → ℕ → Type 0
 TalksAt cells t =
     Talks (cell cells t) (cell cells (t + 1)) (cell cells (t + 2)) (cell cells (t + 3)) (cell cells (t + 4)) (cell cells (t + 5)) (cell cells (t + 6)) (cell cells (t + 7))
-    (window cells (t + 8) 64)
+    (cell cells (t + 8)) (window cells (t + 9) 64)
 
 abbrev pub ListensAt : List ℕ → ℕ → Type 0
 ListensAt cells r =
     Listens (cell cells r) (cell cells (r + 1)) (cell cells (r + 2)) (cell cells (r + 3)) (cell cells (r + 4)) (cell cells (r + 5)) (cell cells (r + 6)) (cell cells (r + 7))
-    (window cells (r + 8) 64)
+    (cell cells (r + 8)) (window cells (r + 9) 64)
 
 -- bits 8 to 14 are clear
 clear-going : (s : ℕ) → s / 256 % 128 ≡ 0 → s / 2 ^ 8 % 2 ≡ 0
@@ -61,9 +61,9 @@ clear-going s h = omega arith
 clear-faults : (s : ℕ) → s / 256 % 128 ≡ 0 → bits s 9 6 ≡ 0
 clear-faults s h = omega arith
 
-pub talks-says : (held block own low count control status crc : ℕ) (silo : List ℕ) → talksBy held own low count control status ≡ true
-    → Talks held block own low count control status crc silo
-talks-says held block own low count control status crc silo ok =
+pub talks-says : (held block own low count control status crc serial : ℕ) (silo : List ℕ) → talksBy held own low count control status ≡ true
+    → Talks held block own low count control status crc serial silo
+talks-says held block own low count control status crc serial silo ok =
     let a = leb 1 held in
     let b = leb held 64 in
     let c = ltb own 32 in
@@ -91,9 +91,9 @@ talks-says held block own low count control status crc silo ok =
       faultless = clear-faults status clear;
     }
 
-pub listens-says : (held block own low count control status crc : ℕ) (silo : List ℕ) (from : ℕ) → listensBy held own low count control status from ≡ true
-    → Listens held block own low count control status crc silo × (control / 2 ^ 8 % 2 ^ 5 ≡ from)
-listens-says held block own low count control status crc silo from ok =
+pub listens-says : (held block own low count control status crc serial : ℕ) (silo : List ℕ) (from : ℕ) → listensBy held own low count control status from ≡ true
+    → Listens held block own low count control status crc serial silo × (control / 2 ^ 8 % 2 ^ 5 ≡ from)
+listens-says held block own low count control status crc serial silo from ok =
     let a = leb held 64 in
     let b = ltb own 2 in
     let c = ltb low 32768 in
@@ -125,43 +125,44 @@ listens-says held block own low count control status crc silo from ok =
 
 -- ---- two windows apart: one written leaves the other
 
-module _ (cells : List ℕ) (t r : ℕ) (placed : Placed cells t r) (w : List ℕ) (wide : length w ≡ 72) where
-  other-cell : (k : ℕ) → k < 72 → cell (splice cells t w) (r + k) ≡ cell cells (r + k)
+module _ (cells : List ℕ) (t r : ℕ) (placed : Placed cells t r) (w : List ℕ) (wide : length w ≡ 73) where
+  other-cell : (k : ℕ) → k < 73 → cell (splice cells t w) (r + k) ≡ cell cells (r + k)
   other-cell k h =
-      ⊎-elim (λ (before : t + 72 ≤ r). cell-past cells t w (omega arith) (r + k) (omega arith))
-      (λ (after : r + 72 ≤ t). cell-before cells t w (omega arith) (r + k) (omega arith)) (placed .apart)
+      ⊎-elim (λ (before : t + 73 ≤ r). cell-past cells t w (omega arith) (r + k) (omega arith))
+      (λ (after : r + 73 ≤ t). cell-before cells t w (omega arith) (r + k) (omega arith)) (placed .apart)
 
   first-cell : cell (splice cells t w) r ≡ cell cells r
   first-cell = simp add-zero at (other-cell 0 (lit< tt))
 
-  other-silo : window (splice cells t w) (r + 8) 64 ≡ window cells (r + 8) 64
+  other-silo : window (splice cells t w) (r + 9) 64 ≡ window cells (r + 9) 64
   other-silo =
-      ⊎-elim (λ (before : t + 72 ≤ r). window-after cells t w (r + 8) (omega arith) (omega arith) 64)
-      (λ (after : r + 72 ≤ t). window-before cells t w (r + 8) 64 (omega arith) (omega arith)) (placed .apart)
+      ⊎-elim (λ (before : t + 73 ≤ r). window-after cells t w (r + 9) (omega arith) (omega arith) 64)
+      (λ (after : r + 73 ≤ t). window-before cells t w (r + 9) 64 (omega arith) (omega arith)) (placed .apart)
 
   -- so what is asked of it holds on
-  still-fits : r + 72 ≤ length (splice cells t w)
+  still-fits : r + 73 ≤ length (splice cells t w)
   still-fits = rw (length-splice cells t w (omega arith)) (omega arith)
 
   other-asked : (P : ℕ → ℕ → ℕ → Type 0) → P (cell cells r) (cell cells (r + 1)) (cell cells (r + 6))
       → P (cell (splice cells t w) r) (cell (splice cells t w) (r + 1)) (cell (splice cells t w) (r + 6))
   other-asked P h = rw (first-cell, other-cell 1 (lit< tt), other-cell 6 (lit< tt)) h
 
-  pub other-written : (g : ℕ → ℕ → ℕ → ℕ → ℕ → ℕ → ℕ → ℕ → List ℕ → List ℕ)
+  pub other-written : (g : ℕ → ℕ → ℕ → ℕ → ℕ → ℕ → ℕ → ℕ → ℕ → List ℕ → List ℕ)
       → g (cell (splice cells t w) r) (cell (splice cells t w) (r + 1)) (cell (splice cells t w) (r + 2)) (cell (splice cells t w) (r + 3)) (cell (splice cells t w) (r + 4))
-      (cell (splice cells t w) (r + 5)) (cell (splice cells t w) (r + 6)) (cell (splice cells t w) (r + 7)) (window (splice cells t w) (r + 8) 64)
+      (cell (splice cells t w) (r + 5)) (cell (splice cells t w) (r + 6)) (cell (splice cells t w) (r + 7)) (cell (splice cells t w) (r + 8))
+      (window (splice cells t w) (r + 9) 64)
       ≡ g (cell cells r) (cell cells (r + 1)) (cell cells (r + 2)) (cell cells (r + 3)) (cell cells (r + 4)) (cell cells (r + 5)) (cell cells (r + 6)) (cell cells (r + 7))
-      (window cells (r + 8) 64)
+      (cell cells (r + 8)) (window cells (r + 9) 64)
   other-written g =
-      rw (first-cell, other-cell 1 (lit< tt), other-cell 2 (lit< tt), other-cell 3 (lit< tt), other-cell 4 (lit< tt), other-cell 5 (lit< tt), other-cell 6 (lit< tt), other-cell 7 (lit< tt), other-silo)
+      rw (first-cell, other-cell 1 (lit< tt), other-cell 2 (lit< tt), other-cell 3 (lit< tt), other-cell 4 (lit< tt), other-cell 5 (lit< tt), other-cell 6 (lit< tt), other-cell 7 (lit< tt), other-cell 8 (lit< tt), other-silo)
 
 -- what is asked of the second window holds when the first is written
-pub still-asked : (cells : List ℕ) (t r : ℕ) → Placed cells t r → (held block control status crc : ℕ) (f : List ℕ → List ℕ) → length (f (window cells (t + 8) 64)) ≡ 64
+pub still-asked : (cells : List ℕ) (t r : ℕ) → Placed cells t r → (held block control status crc : ℕ) (f : List ℕ → List ℕ) → length (f (window cells (t + 9) 64)) ≡ 64
     → (P : ℕ → ℕ → ℕ → Type 0) → P (cell cells r) (cell cells (r + 1)) (cell cells (r + 6))
-    → (r + 72 ≤ length (written cells t held block control status crc f))
+    → (r + 73 ≤ length (written cells t held block control status crc f))
     × P (cell (written cells t held block control status crc f) r) (cell (written cells t held block control status crc f) (r + 1)) (cell (written cells t held block control status crc f) (r + 6))
 still-asked cells t r placed held block control status crc f long P h =
-    let w = headed cells t held block control status crc (f (window cells (t + 8) 64)) in
+    let w = headed cells t held block control status crc (f (window cells (t + 9) 64)) in
     (still-fits cells t r placed w (omega arith), other-asked cells t r placed w (omega arith) P h)
 
 -- ---- the sides at two places, by the cells
@@ -173,10 +174,10 @@ pub record StepAt (cells : List ℕ) (t r from : ℕ) : Type 0 where
   pub sender : cell cells (r + 5) / 2 ^ 8 % 2 ^ 5 ≡ from
   pub block : cell cells (t + 1) ≡ cell cells (r + 1)
   pub crc : cell cells (t + 7) ≡ cell cells (r + 7)
-  pub sixteen : Sixteen cells t
+  pub sixteen : Sixteen cells
 
 -- the tests say so
-pub in-step-says : (cells : List ℕ) (t r from : ℕ) → inStepAt cells t r from ≡ true → Sixteen cells t → StepAt cells t r from
+pub in-step-says : (cells : List ℕ) (t r from : ℕ) → inStepAt cells t r from ≡ true → Sixteen cells → StepAt cells t r from
 in-step-says cells t r from ok sixteen =
     let a = talksAt cells t in
     let b = listensAt cells r from in
@@ -184,9 +185,9 @@ in-step-says cells t r from ok sixteen =
     let d = eqb (cell cells (t + 7)) (cell cells (r + 7)) in
     let ab = left-of (a && b) (c && d) ok in
     let cd = right-of (a && b) (c && d) ok in
-    let listener = listens-says _ _ _ _ _ _ _ _ (window cells (r + 8) 64) from (right-of a b ab) in
+    let listener = listens-says _ _ _ _ _ _ _ _ (cell cells (r + 8)) (window cells (r + 9) 64) from (right-of a b ab) in
     record {
-      talker = talks-says _ _ _ _ _ _ _ _ (window cells (t + 8) 64) (left-of a b ab);
+      talker = talks-says _ _ _ _ _ _ _ _ (cell cells (t + 8)) (window cells (t + 9) 64) (left-of a b ab);
       listener = listener .0;
       sender = listener .1;
       block = eqb-true _ _ (left-of c d cd);
@@ -196,10 +197,10 @@ in-step-says cells t r from ok sixteen =
 
 module _ (cells : List ℕ) (t r from : ℕ) (placed : Placed cells t r) (s : StepAt cells t r from) where
   abbrev T : Transmitter
-  T = decTransmitter (headAt cells t ++ window cells (t + 8) 64)
+  T = decTransmitter (headAt cells t ++ window cells (t + 9) 64)
 
   abbrev R : Receiver
-  R = decReceiver (headAt cells r ++ window cells (r + 8) 64)
+  R = decReceiver (headAt cells r ++ window cells (r + 9) 64)
 
   sender-at : transmitterAt cells t ≡ T
   sender-at = ap decTransmitter (head-and-silo cells t (omega arith))
@@ -207,29 +208,26 @@ module _ (cells : List ℕ) (t r from : ℕ) (placed : Placed cells t r) (s : St
   receiver-at : receiverAt cells r ≡ R
   receiver-at = ap decReceiver (head-and-silo cells r (omega arith))
 
-  long-t : length (window cells (t + 8) 64) ≡ 64
-  long-t = length-window cells (t + 8) 64 (omega arith)
+  long-t : length (window cells (t + 9) 64) ≡ 64
+  long-t = length-window cells (t + 9) 64 (omega arith)
 
-  long-r : length (window cells (r + 8) 64) ≡ 64
-  long-r = length-window cells (r + 8) 64 (omega arith)
-
-  crc-r : cell cells (r + 7) < 2 ^ 16
-  crc-r = rw (← s .crc) (s .sixteen .crc)
+  long-r : length (window cells (r + 9) 64) ≡ 64
+  long-r = length-window cells (r + 9) 64 (omega arith)
 
   in-step : InStep T R from
   in-step =
       record {
-        talking = Talker.talking _ _ _ _ _ _ _ _ _ (s .talker) (s .sixteen .control) (s .sixteen .status) (s .sixteen .crc) long-t;
-        listening = Listener.listening _ _ _ _ _ _ _ _ _ (s .listener) crc-r long-r from (s .sender);
+        talking = Talker.talking _ _ _ _ _ _ _ _ _ _ (s .talker) (s .sixteen (t + 5)) (s .sixteen (t + 6)) (s .sixteen (t + 7)) (s .sixteen (t + 8)) long-t;
+        listening = Listener.listening _ _ _ _ _ _ _ _ _ _ (s .listener) (s .sixteen (r + 7)) (s .sixteen (r + 8)) long-r from (s .sender);
         block = ap (min 128) (sym (s .block));
         crc = ap (λ (n : ℕ). n % 2 ^ 16) (sym (s .crc));
       }
 
   going : T .channel .ending ≡ false
-  going = Talker.going _ _ _ _ _ _ _ _ _ (s .talker) (s .sixteen .control) (s .sixteen .status) (s .sixteen .crc) long-t
+  going = Talker.going _ _ _ _ _ _ _ _ _ _ (s .talker) (s .sixteen (t + 5)) (s .sixteen (t + 6)) (s .sixteen (t + 7)) (s .sixteen (t + 8)) long-t
 
   more : allSent T ≡ false
-  more = Talker.more _ _ _ _ _ _ _ _ _ (s .talker) (s .sixteen .control) (s .sixteen .status) (s .sixteen .crc) long-t
+  more = Talker.more _ _ _ _ _ _ _ _ _ _ (s .talker) (s .sixteen (t + 5)) (s .sixteen (t + 6)) (s .sixteen (t + 7)) (s .sixteen (t + 8)) long-t
 
   free : cell cells (t + 6) < 2 ^ 15 → T .channel .awaiting ≡ false
   free h = let e15 : cell cells (t + 6) / 2 ^ 15 % 2 ≡ 0 = omega arith in rw e15
@@ -246,8 +244,8 @@ module _ (cells : List ℕ) (t r from : ℕ) (placed : Placed cells t r) (s : St
   word short h room =
       between-is
       ∙ (word-step T R from in-step going (free h) more (omega arith)
-      (Talker.not-empty _ _ _ _ _ _ _ _ _ (s .talker) (s .sixteen .control) (s .sixteen .status) (s .sixteen .crc) long-t)
-      (Listener.has-room _ _ _ _ _ _ _ _ _ (s .listener) crc-r long-r room))
+      (Talker.not-empty _ _ _ _ _ _ _ _ _ _ (s .talker) (s .sixteen (t + 5)) (s .sixteen (t + 6)) (s .sixteen (t + 7)) (s .sixteen (t + 8)) long-t)
+      (Listener.has-room _ _ _ _ _ _ _ _ _ _ (s .listener) (s .sixteen (r + 7)) (s .sixteen (r + 8)) long-r room))
 
   -- a due CRC taken
   pub due : cell cells (t + 1) ≡ 128 → cell cells (t + 6) < 2 ^ 15 → cell cells (r + 6) / 2 ^ 6 % 2 ≡ 0
@@ -259,32 +257,33 @@ module _ (cells : List ℕ) (t r from : ℕ) (placed : Placed cells t r) (s : St
       → between cells t r from
       ≡ record { transmitter = settled (restarted (showing (afterSending T Choice.DueCrc) 2 3)); receiver = afterDue R; codes = record { a = 2; b = 3 } }
   verdict full h owed good =
-      let status16 = s .sixteen .status in
+      let status16 = s .sixteen (t + 6) in
       let e15 : cell cells (t + 6) / 2 ^ 15 % 2 ≡ 1 = omega arith in
       between-is ∙ due-verdict T R from in-step going (rw (e15, full)) (omega arith) (rw owed) (rw good)
 
   -- ---- what is written is both sides put back
 
   -- a window at each place, the second made of cells that the first leaves
-  both-put : (x : Transmitter) (y : Receiver) (w : List ℕ) (g : ℕ → ℕ → ℕ → ℕ → ℕ → ℕ → ℕ → ℕ → List ℕ → List ℕ) → length w ≡ 72
+  both-put : (x : Transmitter) (y : Receiver) (w : List ℕ) (g : ℕ → ℕ → ℕ → ℕ → ℕ → ℕ → ℕ → ℕ → ℕ → List ℕ → List ℕ) → length w ≡ 73
       → encTransmitter x ≡ w
       → encReceiver y
       ≡ g (cell cells r) (cell cells (r + 1)) (cell cells (r + 2)) (cell cells (r + 3)) (cell cells (r + 4)) (cell cells (r + 5)) (cell cells (r + 6)) (cell cells (r + 7))
-      (window cells (r + 8) 64)
+      (cell cells (r + 8)) (window cells (r + 9) 64)
       → splice (splice cells t w) r
       (g (cell (splice cells t w) r) (cell (splice cells t w) (r + 1)) (cell (splice cells t w) (r + 2)) (cell (splice cells t w) (r + 3)) (cell (splice cells t w) (r + 4))
-      (cell (splice cells t w) (r + 5)) (cell (splice cells t w) (r + 6)) (cell (splice cells t w) (r + 7)) (window (splice cells t w) (r + 8) 64))
+      (cell (splice cells t w) (r + 5)) (cell (splice cells t w) (r + 6)) (cell (splice cells t w) (r + 7)) (cell (splice cells t w) (r + 8))
+      (window (splice cells t w) (r + 9) 64))
       ≡ putBoth cells t r x y
   both-put x y w g wide e e' =
       ap (splice (splice cells t w) r) (other-written cells t r placed w wide g ∙ sym e') ∙ ap (λ (l : List ℕ). splice (splice cells t l) r (encReceiver y)) (sym e)
 
-  word-is : getD (window cells (t + 8) 64) 0 0 ≡ cell cells (t + 8)
-  word-is = cell-window cells (t + 8) 64 0 (lit< tt) ∙ ap (cell cells) (add-zero (t + 8))
+  word-is : getD (window cells (t + 9) 64) 0 0 ≡ cell cells (t + 9)
+  word-is = cell-window cells (t + 9) 64 0 (lit< tt) ∙ ap (cell cells) (add-zero (t + 9))
 
-  oldest-is : oldest (T .end .silo) ≡ cell cells (t + 8)
+  oldest-is : oldest (T .end .silo) ≡ cell cells (t + 9)
   oldest-is =
-      rw (Talker.not-empty _ _ _ _ _ _ _ _ _ (s .talker) (s .sixteen .control) (s .sixteen .status) (s .sixteen .crc) long-t)
-      (getD-take 64 (window cells (t + 8) 64) 0 0 (lit< tt) ∙ word-is)
+      rw (Talker.not-empty _ _ _ _ _ _ _ _ _ _ (s .talker) (s .sixteen (t + 5)) (s .sixteen (t + 6)) (s .sixteen (t + 7)) (s .sixteen (t + 8)) long-t)
+      (getD-take 64 (window cells (t + 9) 64) 0 0 (lit< tt) ∙ word-is)
 
   abbrev status-t : ℕ
   status-t = cell cells (t + 6)
@@ -298,23 +297,23 @@ module _ (cells : List ℕ) (t r from : ℕ) (placed : Placed cells t r) (s : St
   pub carried-word : cell cells (t + 1) < 128 → status-t < 2 ^ 15 → cell cells r < 64 → Carried cells t r from 3 (wordCarried cells t r)
   carried-word short h room =
       let is = word short h room in
-      let crc' = crcWord (cell cells (t + 7)) (cell cells (t + 8)) in
-      let wide : length (shifted (window cells (t + 8) 64)) ≡ 64 = length-shifted (window cells (t + 8) 64) 63 long-t in
+      let crc' = crcWord (cell cells (t + 7)) (cell cells (t + 9)) in
+      let wide : length (shifted (window cells (t + 9) 64)) ≡ 64 = length-shifted (window cells (t + 9) 64) 63 long-t in
       record {
         own = own;
         codes = ap (λ (p : Pair). p .codes) is;
         sides =
             both-put (between-them .transmitter) (between-them .receiver)
-            (headed cells t (cell cells t - 1) (cell cells (t + 1) + 1) (unmarked (cell cells (t + 5))) (acknowledged status-t) crc' (shifted (window cells (t + 8) 64)))
-            (λ held since own low count control status check silo.
-            (held + 1) ∷ (since + 1) ∷ own ∷ low ∷ count ∷ unmarked control ∷ acknowledged status ∷ crc' ∷ set silo held (cell cells (t + 8)))
+            (headed cells t (cell cells t - 1) (cell cells (t + 1) + 1) (unmarked (cell cells (t + 5))) (acknowledged status-t) crc' (shifted (window cells (t + 9) 64)))
+            (λ held since own low count control status check serial silo.
+            (held + 1) ∷ (since + 1) ∷ own ∷ low ∷ count ∷ unmarked control ∷ acknowledged status ∷ crc' ∷ serial ∷ set silo held (cell cells (t + 9)))
             (omega arith)
             (ap (λ (p : Pair). encTransmitter (p .transmitter)) is
-            ∙ Talker.window-sent _ _ _ _ _ _ _ _ _ (s .talker) (s .sixteen .control) (s .sixteen .status) (s .sixteen .crc) long-t short h
+            ∙ Talker.window-sent _ _ _ _ _ _ _ _ _ _ (s .talker) (s .sixteen (t + 5)) (s .sixteen (t + 6)) (s .sixteen (t + 7)) (s .sixteen (t + 8)) long-t short h
             ∙ rw word-is refl)
             (ap (λ (p : Pair). encReceiver (p .receiver)) is
             ∙ ap (λ (x : ℕ). encReceiver (afterWord R x)) oldest-is
-            ∙ Listener.window-stored _ _ _ _ _ _ _ _ _ (s .listener) crc-r long-r (cell cells (t + 8)) room (rw (← s .block) short)
+            ∙ Listener.window-stored _ _ _ _ _ _ _ _ _ _ (s .listener) (s .sixteen (r + 7)) (s .sixteen (r + 8)) long-r (cell cells (t + 9)) room (rw (← s .block) short)
             ∙ rw (← s .crc) refl);
       }
 
@@ -327,12 +326,12 @@ module _ (cells : List ℕ) (t r from : ℕ) (placed : Placed cells t r) (s : St
         codes = ap (λ (p : Pair). p .codes) is;
         sides =
             both-put (between-them .transmitter) (between-them .receiver)
-            (headed cells t (cell cells t) (cell cells (t + 1)) (cell cells (t + 5)) (status-t / 16 * 16 + 6 + 32768) (cell cells (t + 7)) (window cells (t + 8) 64))
-            (λ held since own low count control status check silo. held ∷ since ∷ own ∷ low ∷ count ∷ control ∷ (status / 16 * 16 + 6 + 64 + 256) ∷ check ∷ silo)
+            (headed cells t (cell cells t) (cell cells (t + 1)) (cell cells (t + 5)) (status-t / 16 * 16 + 6 + 32768) (cell cells (t + 7)) (window cells (t + 9) 64))
+            (λ held since own low count control status check serial silo. held ∷ since ∷ own ∷ low ∷ count ∷ control ∷ (status / 16 * 16 + 6 + 64 + 256) ∷ check ∷ serial ∷ silo)
             (omega (arith, long-t))
             (ap (λ (p : Pair). encTransmitter (p .transmitter)) is
-            ∙ Talker.window-due _ _ _ _ _ _ _ _ _ (s .talker) (s .sixteen .control) (s .sixteen .status) (s .sixteen .crc) long-t full h)
-            (ap (λ (p : Pair). encReceiver (p .receiver)) is ∙ Listener.window-taken _ _ _ _ _ _ _ _ _ (s .listener) crc-r long-r (sym (s .block) ∙ full) none fresh);
+            ∙ Talker.window-due _ _ _ _ _ _ _ _ _ _ (s .talker) (s .sixteen (t + 5)) (s .sixteen (t + 6)) (s .sixteen (t + 7)) (s .sixteen (t + 8)) long-t full h)
+            (ap (λ (p : Pair). encReceiver (p .receiver)) is ∙ Listener.window-taken _ _ _ _ _ _ _ _ _ _ (s .listener) (s .sixteen (r + 7)) (s .sixteen (r + 8)) long-r (sym (s .block) ∙ full) none fresh);
       }
 
   pub carried-verdict : cell cells (t + 1) ≡ 128 → 2 ^ 15 ≤ status-t → status-r / 2 ^ 6 % 2 ≡ 1 → status-r / 2 ^ 8 % 2 ≡ 1
@@ -344,12 +343,12 @@ module _ (cells : List ℕ) (t r from : ℕ) (placed : Placed cells t r) (s : St
         codes = ap (λ (p : Pair). p .codes) is;
         sides =
             both-put (between-them .transmitter) (between-them .receiver)
-            (headed cells t (cell cells t) 0 (cell cells (t + 5)) (acknowledged (status-t % 32768)) 0 (window cells (t + 8) 64))
-            (λ held since own low count control status check silo. held ∷ 0 ∷ own ∷ low ∷ count ∷ control ∷ (acknowledged status - 320) ∷ 0 ∷ silo)
+            (headed cells t (cell cells t) 0 (cell cells (t + 5)) (acknowledged (status-t % 32768)) 0 (window cells (t + 9) 64))
+            (λ held since own low count control status check serial silo. held ∷ 0 ∷ own ∷ low ∷ count ∷ control ∷ (acknowledged status - 320) ∷ 0 ∷ serial ∷ silo)
             (omega (arith, long-t))
             (ap (λ (p : Pair). encTransmitter (p .transmitter)) is
-            ∙ Talker.window-passed _ _ _ _ _ _ _ _ _ (s .talker) (s .sixteen .control) (s .sixteen .status) (s .sixteen .crc) long-t full h)
-            (ap (λ (p : Pair). encReceiver (p .receiver)) is ∙ Listener.window-restarted _ _ _ _ _ _ _ _ _ (s .listener) crc-r long-r owed good);
+            ∙ Talker.window-passed _ _ _ _ _ _ _ _ _ _ (s .talker) (s .sixteen (t + 5)) (s .sixteen (t + 6)) (s .sixteen (t + 7)) (s .sixteen (t + 8)) long-t full h)
+            (ap (λ (p : Pair). encReceiver (p .receiver)) is ∙ Listener.window-restarted _ _ _ _ _ _ _ _ _ _ (s .listener) (s .sixteen (r + 7)) (s .sixteen (r + 8)) long-r owed good);
       }
 
 -- ---- a slice that was tried

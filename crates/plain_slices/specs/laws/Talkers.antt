@@ -41,9 +41,9 @@ nothing-sent true true = refl
 nothing-sent true false = refl
 nothing-sent false b = refl
 
-module _ (held block own low count control status crc : ℕ) (silo : List ℕ) where
+module _ (held block own low count control status crc serial : ℕ) (silo : List ℕ) where
   abbrev t : Transmitter
-  t = decTransmitter (held ∷ block ∷ own ∷ low ∷ count ∷ control ∷ status ∷ crc ∷ silo)
+  t = decTransmitter (held ∷ block ∷ own ∷ low ∷ count ∷ control ∷ status ∷ crc ∷ serial ∷ silo)
 
   -- a transmitter whose own cell, load and bits are those of the window, with what a slice may change
   abbrev talker : Silo → ℕ → ℕ → ℕ → ℕ → Bool → Bool → Transmitter
@@ -57,6 +57,7 @@ module _ (held block own low count control status crc : ℕ) (silo : List ℕ) w
           block = since;
           crc = check;
           mark = mark;
+          serial = serial % 2 ^ 16;
         };
         commands = commandsIn control;
         modes = modesIn control;
@@ -77,7 +78,7 @@ module _ (held block own low count control status crc : ℕ) (silo : List ℕ) w
     pub going : status / 2 ^ 8 % 2 ≡ 0
     pub faultless : bits status 9 6 ≡ 0
 
-  module _ (k : Talks) (control16 : control < 2 ^ 16) (status16 : status < 2 ^ 16) (crc16 : crc < 2 ^ 16) (long : length silo ≡ 64) where
+  module _ (k : Talks) (control16 : control < 2 ^ 16) (status16 : status < 2 ^ 16) (crc16 : crc < 2 ^ 16) (serial16 : serial < 2 ^ 16) (long : length silo ≡ 64) where
     no-error : hasError t ≡ false
     no-error = faultless status (k .faultless)
 
@@ -95,7 +96,7 @@ module _ (held block own low count control status crc : ℕ) (silo : List ℕ) w
 
     talker-window : (words : Silo) (a b since check : ℕ) (mark awaiting : Bool) → encTransmitter (talker words a b since check mark awaiting)
         ≡ words .held ∷ since ∷ own ∷ low ∷ count ∷ (control - control / 2 ^ 3 % 2 * 2 ^ 3 + bit mark * 2 ^ 3)
-        ∷ (status % 2 ^ 15 / 2 ^ 4 * 2 ^ 4 + a + b * 2 ^ 2 + bit awaiting * 2 ^ 15) ∷ check ∷ words .cells
+        ∷ (status % 2 ^ 15 / 2 ^ 4 * 2 ^ 4 + a + b * 2 ^ 2 + bit awaiting * 2 ^ 15) ∷ check ∷ serial ∷ words .cells
     talker-window words a b since check mark awaiting =
         let extension : (bits control 4 2 * 2 ^ 16 + low % 2 ^ 15 * 2) / 2 ^ 16 ≡ bits control 4 2 = omega arith in
         let latched = k .latched in
@@ -103,7 +104,7 @@ module _ (held block own low count control status crc : ℕ) (silo : List ℕ) w
         let count15 = k .count15 in
         let e8 = k .going in
         same refl refl (omega arith) (omega arith) (omega arith) (rw extension (control-with control control16 (bit mark)))
-        (status-with status status16 a b (bit (bitAt status 6)) 0 (bit awaiting) ∙ rw (bit-on (status / 2 ^ 6)) (omega arith)) refl refl
+        (status-with status status16 a b (bit (bitAt status 6)) 0 (bit awaiting) ∙ rw (bit-on (status / 2 ^ 6)) (omega arith)) refl (omega arith) refl
 
     abbrev words : Silo
     words = t .end .silo
@@ -115,7 +116,7 @@ module _ (held block own low count control status crc : ℕ) (silo : List ℕ) w
     -- its word was accepted
     pub window-sent : block < 128 → status < 2 ^ 15 → encTransmitter (settled (counted (showing t 2 3)))
         ≡ (held - 1) ∷ (block + 1) ∷ own ∷ low ∷ count ∷ (control - control / 2 ^ 3 % 2 * 2 ^ 3) ∷ (status / 2 ^ 4 * 2 ^ 4 + 14)
-        ∷ crcWord crc (getD silo 0 0) ∷ shifted silo
+        ∷ crcWord crc (getD silo 0 0) ∷ serial ∷ shifted silo
     window-sent short free =
         let e15 : status / 2 ^ 15 % 2 ≡ 0 = omega arith in
         let most = k .most in
@@ -124,26 +125,26 @@ module _ (held block own low count control status crc : ℕ) (silo : List ℕ) w
         ap encTransmitter is
         ∙ talker-window (taken words) 2 3 (min 128 block + 1) (crcWord (crc % 2 ^ 16) (oldest words)) false false
         ∙ same (rw not-empty (omega arith)) (omega arith) refl refl refl (omega arith) (omega arith)
-        (rw (not-empty, cells) (ap (λ (n : ℕ). crcWord n (getD silo 0 0)) (omega arith))) (rw (not-empty, cells) refl)
+        (rw (not-empty, cells) (ap (λ (n : ℕ). crcWord n (getD silo 0 0)) (omega arith))) refl (rw (not-empty, cells) refl)
 
     -- its due CRC was taken
     pub window-due : block ≡ 128 → status < 2 ^ 15 → encTransmitter (settled (showing (afterSending t Choice.DueCrc) 2 1))
-        ≡ held ∷ block ∷ own ∷ low ∷ count ∷ control ∷ (status / 2 ^ 4 * 2 ^ 4 + 6 + 2 ^ 15) ∷ crc ∷ silo
+        ≡ held ∷ block ∷ own ∷ low ∷ count ∷ control ∷ (status / 2 ^ 4 * 2 ^ 4 + 6 + 2 ^ 15) ∷ crc ∷ serial ∷ silo
     window-due full free =
         let most = k .most in
         let is : settled (showing (afterSending t Choice.DueCrc) 2 1) ≡ talker words 2 1 (min 128 block) (crc % 2 ^ 16) (bitAt control 3) true =
         rw (no-error, k .going, k .opened, busy (bitAt control 3) (bitAt control 13), busy (bitAt control 3) (bitAt control 13)) refl in
         ap encTransmitter is
         ∙ talker-window words 2 1 (min 128 block) (crc % 2 ^ 16) (bitAt control 3) true
-        ∙ same (omega arith) (omega arith) refl refl refl (rw (bit-on (control / 2 ^ 3)) (omega arith)) (omega arith) (omega arith) cells
+        ∙ same (omega arith) (omega arith) refl refl refl (rw (bit-on (control / 2 ^ 3)) (omega arith)) (omega arith) (omega arith) refl cells
 
     -- it was found good
     pub window-passed : block ≡ 128 → 2 ^ 15 ≤ status → encTransmitter (settled (restarted (showing (afterSending t Choice.DueCrc) 2 3)))
-        ≡ held ∷ 0 ∷ own ∷ low ∷ count ∷ control ∷ (status % 2 ^ 15 / 2 ^ 4 * 2 ^ 4 + 14) ∷ 0 ∷ silo
+        ≡ held ∷ 0 ∷ own ∷ low ∷ count ∷ control ∷ (status % 2 ^ 15 / 2 ^ 4 * 2 ^ 4 + 14) ∷ 0 ∷ serial ∷ silo
     window-passed full waits =
         let most = k .most in
         let is : settled (restarted (showing (afterSending t Choice.DueCrc) 2 3)) ≡ talker words 2 3 0 0 (bitAt control 3) false =
         rw (no-error, k .going, k .opened, busy (bitAt control 3) (bitAt control 13), busy (bitAt control 3) (bitAt control 13)) refl in
         ap encTransmitter is
         ∙ talker-window words 2 3 0 0 (bitAt control 3) false
-        ∙ same (omega arith) refl refl refl refl (rw (bit-on (control / 2 ^ 3)) (omega arith)) (omega arith) refl cells
+        ∙ same (omega arith) refl refl refl refl (rw (bit-on (control / 2 ^ 3)) (omega arith)) (omega arith) refl refl cells

@@ -34,13 +34,13 @@ module _ (p : Parties) (start : World) (o : Opens p start) where
   opened = step (slice 0 0) start
 
   abbrev pub Arrived : World → Type 0
-  Arrived w = Delivered m (endsOf p w) × Reported p w
+  Arrived w = Delivered m (endsOf p w) × Reported p (m .serial) w
 
   arrived : (w : World) → Standing p start State.done w → Arrived w
   arrived w s = (delivered m (endsOf p w) (s .delivering), reported p start o w s)
 
   module _ (es : List Event) (c : Conducted p m opened es) where
-    pub not-before : owns (kinds (m .from) opened es) < slicesOf n → Underway (endsOf p (run es opened)) × Unreported p (run es opened)
+    pub not-before : owns (kinds (m .from) opened es) < slicesOf n → Underway (endsOf p (run es opened)) × Unreported p (m .serial) (run es opened)
     not-before few =
         let b = Runs.not-before p start o es c few in
         let w = run es opened in
@@ -55,7 +55,7 @@ module _ (p : Parties) (start : World) (o : Opens p start) where
   -- so T's slice with that number is the one that does it
   pub exactly-then : (es : List Event) (e : Event) → Conducted p m opened (es ++ e ∷ []) → kindOf (m .from) e (run es opened) ≡ own
       → suc (owns (kinds (m .from) opened es)) ≡ slicesOf n
-      → (Underway (endsOf p (run es opened)) × Unreported p (run es opened)) × Arrived (run (es ++ e ∷ []) opened)
+      → (Underway (endsOf p (run es opened)) × Unreported p (m .serial) (run es opened)) × Arrived (run (es ++ e ∷ []) opened)
   exactly-then es e c mine number =
       let all : owns (kinds (m .from) opened (es ++ e ∷ [])) ≡ slicesOf n = rw (Runs.kinds-append, owns-append, mine) (omega arith) in
       (not-before es (Runs.conducted-before p m es (e ∷ []) opened c) (omega arith), from-then (es ++ e ∷ []) c (omega arith))

@@ -24,7 +24,7 @@ use Rattle.promise.specs.laws.Opens.{Opens}
 use Rattle.promise.specs.laws.SliceEvents.{slice-follows}
 use Rattle.promise.specs.laws.Standing.{Standing}
 use Rattle.promise.specs.laws.UnitEvents.{period-follows, read-follows, reset-follows}
-use Rattle.promise.specs.World.{World, Event, fit, write, writeByte, read, slice, move, period, reset, level, hostWrite, step, withCells, withMemory}
+use Rattle.promise.specs.World.{World, Event, fit, write, writeByte, read, slice, move, period, reset, level, serial, hostWrite, step, withCells, withMemory}
 use Rattle.promise.specs.laws.WriteEvents.{byte-follows, write-follows}
 
 module _ (p : Parties) (start : World) (o : Opens p start) (q : State) (w : World) (s : Standing p start q w) where
@@ -55,4 +55,5 @@ module _ (p : Parties) (start : World) (o : Opens p start) (q : State) (w : Worl
   follows (period unit) a = period-follows p start o q w s unit a
   follows (reset unit) a = reset-follows p start o q w s unit a
   follows (level unit side) a = undisturbed p start q w s (w .cells) (nothing-done p start q w s)
+  follows (serial unit side) a = undisturbed p start q w s (w .cells) (nothing-done p start q w s)
   follows (hostWrite unit place word) a = host-follows unit place word a

@@ -1,4 +1,5 @@
--- What the calls of a host show of a fitted unit: the bits of TSR, RSR and TMMR, IE in TCR and RCR, and the interrupt levels.
+-- What the calls of a host show of a fitted unit: the bits of TSR, RSR and TMMR, IE in TCR and RCR, the
+-- interrupt levels, and the serials.
 -- Assumes nothing.
 use mathlib.Core.Bool.{Bool, false, not, true}
 use mathlib.Core.List.{List}
@@ -20,10 +21,11 @@ use Rattle.master.specs.Ring.{address}
 use Rattle.master.specs.Section.{hasMaster}
 use Rattle.master.specs.Writing.{takesAddress}
 use Rattle.pcl.specs.Calls.{readCall}
-use Rattle.pcl.specs.Numbers.{levelNumber, levelValue, readCallNumber, readCallWord}
-use Rattle.pcl.specs.Sides.{atSide, levelCall}
+use Rattle.pcl.specs.Numbers.{levelNumber, levelValue, readCallNumber, readCallWord, serialNumber, serialValue}
+use Rattle.pcl.specs.Sides.{atSide, levelCall, serialCall}
 use Rattle.pcl.specs.declared.answers.LevelCall.{LevelCall}
 use Rattle.pcl.specs.declared.answers.ReadCall.{ReadCall}
+use Rattle.pcl.specs.declared.answers.SerialCall.{SerialCall}
 use Rattle.receiver.specs.Requests as R
 use Rattle.receiver.specs.Side as RS
 use Rattle.receiver.specs.declared.side.Receiver.{Receiver}
@@ -35,7 +37,7 @@ use Rattle.transmitter.specs.declared.side.Transmitter.{Transmitter}
 use Rattle.transmitter_registers.specs.Shown as TR
 use Rattle.words.specs.Address.{extensionOf}
 use Rattle.words.specs.declared.answers.Read.{Read}
-use Rattle.promise.specs.Reports.{Level, Shows, Status, bitRead}
+use Rattle.promise.specs.Reports.{Level, Serial, Shows, Status, bitRead}
 use Rattle.promise.specs.laws.StatusBits.{StatusBits, channel-bit, enabled-bit, status-bits}
 use Rattle.promise.specs.World.{World}
 
@@ -62,6 +64,12 @@ module _ (w : World) (ok : inRange (w .cells) ≡ true) (unit : ℕ) (fitted : u
   level-is side level is =
       let e : levelCall (w .cells) unit side ≡ LevelCall.Level level = sym (past _ (ap not ok) (past _ some refl)) ∙ is in
       (ap levelNumber e, ap levelValue e)
+
+  pub serial-is : (side number : ℕ) → atSide side (SerialCall.Serial (transmitterOf (w .cells) unit .end .serial)) (SerialCall.Serial (receiverOf (w .cells) unit .end .serial)) SerialCall.NoUnit ≡ SerialCall.Serial number
+      → Serial w unit side number
+  serial-is side number is =
+      let e : serialCall (w .cells) unit side ≡ SerialCall.Serial number = sym (past _ (ap not ok) (past _ some refl)) ∙ is in
+      (ap serialNumber e, ap serialValue e)
 
   -- ---- TSR and RSR
 

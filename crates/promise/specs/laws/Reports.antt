@@ -6,6 +6,7 @@ use Rattle.cells.specs.Fitted.{transmitterOf, receiverOf}
 use Rattle.delivery.specs.laws.Invariant.{Open}
 use Rattle.delivery.specs.laws.Slices.{State}
 use Rattle.pcl.specs.declared.answers.LevelCall.{LevelCall}
+use Rattle.pcl.specs.declared.answers.SerialCall.{SerialCall}
 use Rattle.receiver.specs.Requests as R
 use Rattle.receiver.specs.Side as RS
 use Rattle.receiver.specs.declared.side.Receiver.{Receiver}
@@ -15,7 +16,7 @@ use Rattle.transmitter.specs.declared.side.Transmitter.{Transmitter}
 use Rattle.promise.specs.laws.Follows.{receiver-fitted, sender-fitted}
 use Rattle.promise.specs.Opening.{Parties, messageIn}
 use Rattle.promise.specs.laws.Opens.{Opens}
-use Rattle.promise.specs.laws.RegisterReads.{level-is, receiver-channel, receiver-enabled, receiver-status, sender-channel, sender-enabled, sender-status}
+use Rattle.promise.specs.laws.RegisterReads.{level-is, receiver-channel, receiver-enabled, receiver-status, sender-channel, sender-enabled, sender-status, serial-is}
 use Rattle.promise.specs.Reports.{Level, Reported, Unreported}
 use Rattle.promise.specs.laws.Standing.{Standing}
 use Rattle.promise.specs.World.{World}
@@ -53,7 +54,7 @@ module _ (p : Parties) (start : World) (o : Opens p start) (q : State) (w : Worl
 
   -- ---- before
 
-  open-unreported : {ending awaiting owed : Bool} → Open (messageIn p start) ending awaiting owed t r → Unreported p w
+  open-unreported : {ending awaiting owed : Bool} → Open (messageIn p start) ending awaiting owed t r → Unreported p (messageIn p start .serial) w
   open-unreported c =
       let d = s .delivering in
       let there = sender-fitted p start o q w s in
@@ -73,10 +74,12 @@ module _ (p : Parties) (start : World) (o : Opens p start) (q : State) (w : Worl
         levelThere =
             level-is w (s .ranged) (p .receiver) far 1 false
             (ap LevelCall.Level (quiet-receiver r (d .receiving .noError) (c .lasting .noSuccessThere) (d .receiving .noReject) (d .receiving .requests)));
+        serial = serial-is w (s .ranged) (p .sender) there 0 (messageIn p start .serial) (ap SerialCall.Serial (c .lasting .serial));
+        serialThere = serial-is w (s .ranged) (p .receiver) far 1 (messageIn p start .serial) (ap SerialCall.Serial (c .lasting .serialThere));
       }
 
 -- while it is not done, the channel is open
-pub unreported : (p : Parties) (start : World) (o : Opens p start) (q : State) (w : World) → Standing p start q w → (q ≡ State.done → ⊥) → Unreported p w
+pub unreported : (p : Parties) (start : World) (o : Opens p start) (q : State) (w : World) → Standing p start q w → (q ≡ State.done → ⊥) → Unreported p (messageIn p start .serial) w
 unreported p start o (State.words i c) w s more = open-unreported p start o (State.words i c) w s (s .delivering .channel .0)
 unreported p start o (State.due i) w s more = open-unreported p start o (State.due i) w s (s .delivering .channel .0)
 unreported p start o State.last w s more = open-unreported p start o State.last w s (s .delivering .channel)
@@ -84,7 +87,7 @@ unreported p start o State.done w s more = absurd (more refl)
 
 -- ---- from then on
 
-pub reported : (p : Parties) (start : World) (o : Opens p start) (w : World) → Standing p start State.done w → Reported p w
+pub reported : (p : Parties) (start : World) (o : Opens p start) (w : World) → Standing p start State.done w → Reported p (messageIn p start .serial) w
 reported p start o w s =
     let d = s .delivering in
     let c = d .channel in
@@ -105,4 +108,6 @@ reported p start o w s =
       levelThere =
           subst⁻¹ (Level w (p .receiver) 1) (receiver-enabled w (s .ranged) (p .receiver) far)
           (level-is w (s .ranged) (p .receiver) far 1 (r .modes .interruptEnable) (ap LevelCall.Level (receiver-stands r (d .receiving .noError) (c .successThere))));
+      serial = serial-is w (s .ranged) (p .sender) there 0 (messageIn p start .serial) (ap SerialCall.Serial (c .serial));
+      serialThere = serial-is w (s .ranged) (p .receiver) far 1 (messageIn p start .serial) (ap SerialCall.Serial (c .serialThere));
     }

@@ -3,7 +3,7 @@
 use mathlib.Core.Bool.{Bool, true, false, not, _&&_, true≢false, false≢true}
 use mathlib.Core.List.{List}
 use mathlib.Core.Path.{_≡_, sym, ap, _∙_}
-use Prim.Native.Nat.{ℕ}
+use Prim.Native.Nat.{ℕ, _^_, _<_}
 use lib.Dec.{lit<, lit≤}
 use Rattle.ends.specs.laws.EndKept.{within-none, silo-kept, load-kept}
 use Rattle.laws.specs.laws.Both.{right-of}
@@ -23,8 +23,8 @@ use Rattle.receiver.specs.declared.moves.Moved.{Moved}
 use Rattle.receiver.specs.declared.side.Faults.{Faults}
 use Rattle.receiver.specs.declared.side.Receiver.{Receiver}
 
-pub within-initial : Within initial
-within-initial = record { end = within-none; sender = lit< tt; truncated = λ e. absurd (false≢true e); marked = λ e. absurd (false≢true e) }
+pub within-initial : {serial : ℕ} → serial < 2 ^ 16 → Within (initial serial)
+within-initial fits = record { end = within-none fits; sender = lit< tt; truncated = λ e. absurd (false≢true e); marked = λ e. absurd (false≢true e) }
 
 -- a mark that is settled stands only at an open receiver
 pub marks : (r : Receiver) → settled r .end .mark ≡ true → r .end .opened ≡ true

@@ -76,7 +76,7 @@ module _ (r : Receiver) (h : Within r) where
         record { end = end; sender = h .sender; truncated = h .truncated; marked = marks r }
 
     within-control : Within (controlWritten r word)
-    within-control = either Within (initialises word) (λ e. within-initial) (λ e. commanded)
+    within-control = either Within (initialises word) (λ e. within-initial (h .end .serial)) (λ e. commanded)
 
     within-set : Within (statusSet r word)
     within-set =

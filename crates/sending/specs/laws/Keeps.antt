@@ -7,7 +7,7 @@ use native.Mathlib.Omega.{arith}
 use borrow.Author.Tests.{eqb-true, eqb-false}
 use lib.Dec.{eqb, lit<, lit≤}
 use Rattle.ends.specs.Ends as E
-use Rattle.ends.specs.laws.EndKept.{silo-kept, shown-kept, restart-kept, count-kept}
+use Rattle.ends.specs.laws.EndKept.{silo-kept, shown-kept, restart-kept, count-kept, opening-kept, raised-fits}
 use Rattle.laws.specs.Pick.{either}
 use Rattle.laws.specs.laws.Both.{left-of}
 use Rattle.silos.specs.Silo.{isEmpty, oldest}
@@ -129,7 +129,8 @@ module _ (t : Transmitter) (choice : Choice) (answer : Answer) (h : Kept t) (m :
 
 hears-closed : (t : Transmitter) (b : ℕ) → Kept t → Kept (heardClosed t b)
 hears-closed t b h =
-    let fresh : Kept (opening t) = ((restart-kept (h .0 .0), (h .0 .1 .0, h .0 .1 .0)), (λ e. refl, none-awaited false refl)) in
+    let fresh : Kept (opening t) =
+    ((opening-kept (h .0 .0) (raised-fits (t .end .serial)), (h .0 .1 .0, h .0 .1 .0)), (λ e. refl, none-awaited false refl)) in
     either Kept (eqb b 3) (λ e. accepted (opening t) fresh (lit< tt) refl)
     (λ e. either Kept (eqb b 0) (λ e. either Kept (t .modes .retryIfBusy) (λ e. h) (λ e. h)) (λ e. h))
 

@@ -8,6 +8,7 @@ use Rattle.answering.specs.laws.Listening.{Listening, afterWord, afterCrc, afte
 use Rattle.answering.specs.laws.Listening as R
 use Rattle.answering.specs.Events.{opening as listeningTo}
 use Rattle.answering.specs.Rules.{answeredBy}
+use Rattle.ends.specs.Ends.{raised}
 use Rattle.receiver.specs.declared.side.Receiver.{Receiver}
 use Rattle.sending.specs.Choice.{allSent, sentBy}
 use Rattle.sending.specs.Events.{closed, succeeded, counted, restarted}
@@ -117,13 +118,18 @@ module _ (t : Transmitter) (r : Receiver) (from : ℕ) (s : InStep t r from) whe
 
 module _ (t : Transmitter) (r : Receiver) (from : ℕ) (sender : T.Ready t) (ready : R.Ready r) where
   pub opening-step : exchanged t r from 0 false
-      ≡ ends (settled (counted (talkingTo (showing t 2 3)))) (afterWord (listeningTo r from) (oldest (t .end .silo))) 2 3
+      ≡ ends (settled (counted (talkingTo (showing t 2 3)))) (afterWord (listeningTo r from (raised (t .end .serial))) (oldest (t .end .silo))) 2 3
   opening-step =
       ap (λ c. exchangedAs t c r from 0 false) (sends-opening t sender)
       ∙ ap (λ x. ended t Choice.Opening (answeredBy r from x)) (undamaged (sentBy t Choice.Opening))
       ∙ ap (ended t Choice.Opening) (hears-opening r from ready (sentBy t Choice.Opening) refl refl (parity-good (oldest (t .end .silo))))
-      ∙ ap (λ x. ends x (afterWord (listeningTo r from) (oldest (t .end .silo))) 2 3) (opening-accepted t sender)
+      ∙ ap (λ x. ends x (afterWord (listeningTo r from (raised (t .end .serial))) (oldest (t .end .silo))) 2 3) (opening-accepted t sender)
 
-  pub in-step-opened : InStep (settled (counted (talkingTo (showing t 2 3)))) (afterWord (listeningTo r from) (oldest (t .end .silo))) from
+  pub in-step-opened : InStep (settled (counted (talkingTo (showing t 2 3)))) (afterWord (listeningTo r from (raised (t .end .serial))) (oldest (t .end .silo))) from
   in-step-opened =
-      record { talking = talking-opened t sender; listening = listening-opening r from ready (oldest (t .end .silo)); block = refl; crc = refl }
+      record {
+        talking = talking-opened t sender;
+        listening = listening-opening r from ready (raised (t .end .serial)) (oldest (t .end .silo));
+        block = refl;
+        crc = refl;
+      }

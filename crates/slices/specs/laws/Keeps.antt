@@ -10,6 +10,7 @@ use Rattle.answering.specs.Choice.{openWithAnother}
 use Rattle.answering.specs.Events as A
 use Rattle.answering.specs.laws.Keeps.{code-lt, later-untouched, opening-breaks-off, other-untouched, within-answered}
 use Rattle.answering.specs.Rules.{answeredBy, answering, untouched}
+use Rattle.ends.specs.laws.EndKept.{raised-fits}
 use Rattle.laws.specs.Pick.{pick, past, either}
 use Rattle.receiver.specs.Side as R
 use Rattle.receiver.specs.declared.side.Receiver.{Receiver}
@@ -21,7 +22,7 @@ use Rattle.transmitter.specs.Side as T
 use Rattle.transmitter.specs.declared.side.Transmitter.{Transmitter}
 use Rattle.words.specs.Codes.{noCodes}
 use Rattle.words.specs.Lines.{answered, damaged}
-use Rattle.words.specs.laws.LineLaws.{code-stays, mark-stays}
+use Rattle.words.specs.laws.LineLaws.{code-stays, mark-stays, serial-stays}
 use Rattle.words.specs.declared.lines.Sent.{Sent}
 use Rattle.slices.specs.Slice.{ended, passed, exchanged, exchangedAs, unheard, sentAlone, sentAloneAs}
 use Rattle.slices.specs.declared.Alone.{Alone}
@@ -41,7 +42,7 @@ module _ (t : Transmitter) (open-now : t .end .opened ≡ true) where
       (λ e. either P (wantsOn t && not (isEmpty (t .end .silo))) (λ e. others none .2) (λ e. others none .3)))))))
       (λ shut. absurd (true≢false (sym open-now ∙ shut)))
 
-  no-opening : isOpening (chosen t) ≡ false
+  pub no-opening : isOpening (chosen t) ≡ false
   no-opening = open-sends (λ c. isOpening c ≡ false) (λ e. refl) (λ e. (refl, refl, refl, refl))
 
   -- B 00: it closes; with TXM ERR by the chart, or where it had an error by row 00, "B setting nothing"
@@ -123,7 +124,8 @@ module _ (t : Transmitter) (r : Receiver) (from mask : ℕ) (parity : Bool) wher
   within-receiver h address =
       either (λ (p : Pair). R.Within (p .receiver)) (actsOn (chosen t))
       (λ e. within-answered r h from (damaged (sentBy t (chosen t)) mask parity) address
-      (rw (code-stays (sentBy t (chosen t)) mask parity) (sent-lt (chosen t)))) (λ e. h)
+      (rw (code-stays (sentBy t (chosen t)) mask parity) (sent-lt (chosen t)))
+      (rw (serial-stays (sentBy t (chosen t)) mask parity) (raised-fits (t .end .serial)))) (λ e. h)
 
 pub idle-alone : (t : Transmitter) → actsOn (chosen t) ≡ false → sentAlone t ≡ record { transmitter = t; codes = noCodes }
 idle-alone t e = sym (past _ e refl)

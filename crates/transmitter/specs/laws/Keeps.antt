@@ -3,7 +3,7 @@
 use mathlib.Core.Bool.{Bool, true, false, not, _&&_, true≢false, false≢true}
 use mathlib.Core.List.{List}
 use mathlib.Core.Path.{_≡_, sym, ap, _∙_}
-use Prim.Native.Nat.{ℕ, _<_}
+use Prim.Native.Nat.{ℕ, _^_, _<_}
 use lib.Dec.{lit<, lit≤}
 use lib.ListN.{getD}
 use Rattle.ends.specs.Ends as E
@@ -26,8 +26,8 @@ use Rattle.transmitter.specs.declared.moves.Moved.{Moved}
 use Rattle.transmitter.specs.declared.side.Faults.{Faults}
 use Rattle.transmitter.specs.declared.side.Transmitter.{Transmitter}
 
-pub within-initial : Within initial
-within-initial = record { end = within-none; destination = lit< tt; latched = lit< tt; ending = λ e. absurd (false≢true e); awaited = λ e. absurd (false≢true e); marked = λ e. absurd (false≢true e) }
+pub within-initial : {serial : ℕ} → serial < 2 ^ 16 → Within (initial serial)
+within-initial fits = record { end = within-none fits; destination = lit< tt; latched = lit< tt; ending = λ e. absurd (false≢true e); awaited = λ e. absurd (false≢true e); marked = λ e. absurd (false≢true e) }
 
 -- a mark that is settled stands only at a BUSY transmitter
 pub marks : (t : Transmitter) → settled t .end .mark ≡ true → isBusy t ≡ true

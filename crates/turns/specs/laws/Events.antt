@@ -44,7 +44,7 @@ use Rattle.pcl.specs.Sides.{moveCall}
 use Rattle.pcl.specs.declared.answers.MoveCall.{MoveCall}
 use Rattle.pcl.specs.declared.answers.SliceCall.{SliceCall}
 use Rattle.pcl.specs.laws.Cases.{admitted-cases, move-cases}
-use Rattle.promise.specs.World.{World, Event, fit, write, writeByte, read, slice, move, period, reset, level, hostWrite, step}
+use Rattle.promise.specs.World.{World, Event, fit, write, writeByte, read, slice, move, period, reset, level, serial, hostWrite, step}
 use Rattle.promise.specs.laws.SliceCalls.{ring-turns, ring-first, slice-call}
 use Rattle.turns.specs.Addresses.{answered, addressIn, sliceIn}
 use Rattle.turns.specs.Round.{GoesRound, Elsewhere, Spares}
@@ -204,6 +204,7 @@ module _ (unit : ℕ) (list : List ℕ) (w : World) (g : GoesRound unit list (w 
   turns (period at) s = inr (refl, period-goes unit list (w .cells) g at)
   turns (reset at) s = inr (refl, reset-goes unit list (w .cells) g at s)
   turns (level at side) s = inr (refl, g)
+  turns (serial at side) s = inr (refl, g)
   turns (hostWrite at place word) s = inr (refl, g)
 
   slice-each : (mask parity : ℕ) → length (answered (sliceCall (w .cells) mask parity .0)) ≡ pick (ltb 1 parity) 0 1
@@ -223,4 +224,5 @@ module _ (unit : ℕ) (list : List ℕ) (w : World) (g : GoesRound unit list (w 
   one-each (period at) = refl
   one-each (reset at) = refl
   one-each (level at side) = refl
+  one-each (serial at side) = refl
   one-each (hostWrite at place word) = refl

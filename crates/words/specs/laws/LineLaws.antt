@@ -1,4 +1,5 @@
--- Laws of the lines: the parity bit is good, no mask does no damage, and none changes the code A or the mark of an opening word.
+-- Laws of the lines: the parity bit is good, no mask does no damage, and none changes the code A, the mark of an opening word or
+-- the serial.
 -- Assumes nothing.
 use mathlib.Core.Path.{_≡_, refl}
 use mathlib.Core.Bool.{Bool, true, false}
@@ -29,10 +30,13 @@ parity-good w = go (parityOf w) refl
 pub undamaged : (s : Sent) → damaged s 0 false ≡ s
 undamaged s = rw (xor-zero-r (s .word))
 
--- whatever is damaged, A stays, an opening word is marked, and nothing else is
+-- whatever is damaged, A stays, an opening word is marked, and nothing else is, and the serial stays
 module _ (s : Sent) (mask : ℕ) (parity : Bool) where
   pub code-stays : damaged s mask parity .code ≡ s .code
   code-stays = either (λ (x : Sent). x .code ≡ s .code) parity (λ e. refl) (λ e. refl)
 
   pub mark-stays : damaged s mask parity .opening ≡ s .opening
   mark-stays = either (λ (x : Sent). x .opening ≡ s .opening) parity (λ e. refl) (λ e. refl)
+
+  pub serial-stays : damaged s mask parity .serial ≡ s .serial
+  serial-stays = either (λ (x : Sent). x .serial ≡ s .serial) parity (λ e. refl) (λ e. refl)

@@ -12,7 +12,7 @@ returns-2 : tie.Need-returns-2
 returns-2 c = rw (c .before .before .call .given .1) (omega (arith, c .number-refused .ensures))
 
 returns-3 : tie.Need-returns-3
-returns-3 c = rw (c .before .before .call2 .given .1) (c .pack-read .ensures)
+returns-3 c = rw (c .before .before .call2 .given .1) (c .pack-received .ensures)
 
 pub pack-receive-spec : {M : Type 1} → statement M
 pack-receive-spec =
@@ -21,6 +21,7 @@ pack-receive-spec =
     (λ c. search needs)
     (λ c. search needs)
     (λ c κs. search needs)
+    (λ c. search needs)
     add-result
     (λ c. search needs)
     (λ c κs. search needs)

@@ -21,7 +21,7 @@ serve-requires c κs =
     let m = masterOf s (start .args .unit) in
     let h = master-within _ _ (start .pre .1) in
     let e = c .before .before .before .take-next .ensures in (
-      rw (ap (λ (x : ℕ × List ℕ). x .1) e) (in-range-kept s _ (start .pre .1) 148 (encMaster (nextOf m .side)) (master-part _ (within-next m h)) ∙ start .pre .0),
+      rw (ap (λ (x : ℕ × List ℕ). x .1) e) (in-range-kept s _ (start .pre .1) 150 (encMaster (nextOf m .side)) (master-part _ (within-next m h)) ∙ start .pre .0),
       rw (ap (λ (x : ℕ × List ℕ). x .0) e) (next-lt m h),
     )
 

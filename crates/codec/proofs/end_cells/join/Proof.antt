@@ -9,7 +9,7 @@ returns : tie.Need-returns
 returns c =
     let start = c .before .before .before .before .before .before .before .before in
     rw (c .before .put2 .ensures, c .before .before .before .before .before .put .ensures)
-    (laid 72 8 (start .args .t1) (start .args .t2) (search needs) (omega arith))
+    (laid 73 9 (start .args .t1) (start .args .t2) (search needs) (omega arith))
 
 pub join-spec : {M : Type 1} → statement M
 join-spec = tie.close (tie.spec (λ c. search needs) (λ c. search needs) (λ c. search needs) (λ c. search needs) (λ c. search needs) (λ c. search needs) returns)

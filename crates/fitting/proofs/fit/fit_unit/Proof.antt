@@ -3,6 +3,7 @@ use borrow.Author.Needs.{needs}
 use mathlib.Core.List.{List}
 use mathlib.Core.Path.{ap, _∙_}
 use Prim.Native.Nat.{ℕ}
+use lib.Dec.{lit<}
 use Rattle.cells.specs.Fitted.{putTransmitter, putReceiver, putMaster}
 use Rattle.cells.specs.laws.FittedLaws.{still-fitted}
 use Rattle.master.specs.laws.Laws as M
@@ -14,13 +15,13 @@ use Rattle.fitting.proofs.fit.fit_unit.Tie as tie
 put-transmitter-requires : tie.Need-put-transmitter-requires
 put-transmitter-requires c κs =
     let owned = c .before .before .before .before in
-    (still-fitted (owned .store-unit .kept .0) (owned .before .before .before .pre .0), rw (c .start .ensures) T.within-initial)
+    (still-fitted (owned .store-unit .kept .0) (owned .before .before .before .pre .0), rw (c .start .ensures) (T.within-initial (lit< tt)))
 
 put-receiver-requires : tie.Need-put-receiver-requires
 put-receiver-requires c κs =
     let sent = c .before .before .before .before in
     let owned = sent .before .before .before .before .before in
-    (still-fitted (sent .put-transmitter .kept .0 ∙ owned .store-unit .kept .0) (owned .before .before .before .pre .0), rw (c .start2 .ensures) R.within-initial)
+    (still-fitted (sent .put-transmitter .kept .0 ∙ owned .store-unit .kept .0) (owned .before .before .before .pre .0), rw (c .start2 .ensures) (R.within-initial (lit< tt)))
 
 put-master-requires : tie.Need-put-master-requires
 put-master-requires c κs =

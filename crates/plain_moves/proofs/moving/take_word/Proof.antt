@@ -17,7 +17,7 @@ returns c =
     let put = c .before .before .before .before .before .before in
     let a = put .before .before .before .before .before .args in
     let head = headMoved (a .cells .now) (a .at) (cell (a .cells .now) (a .at) - 1) in
-    let wide = length-shifted (window (a .cells .now) (a .at + 8) 64) 63 (length-window (a .cells .now) (a .at + 8) 64 (omega arith)) in
+    let wide = length-shifted (window (a .cells .now) (a .at + 9) 64) 63 (length-window (a .cells .now) (a .at + 9) 64 (omega arith)) in
     (rw (c .before .before .shift .ensures, put .put-head .ensures) (head-then-silo (a .cells .now) (a .at) head refl (omega arith) shifted wide), refl)
 
 pub take-word-spec : {M : Type 1} → statement M

@@ -13,7 +13,7 @@ take-due-requires c κs =
     let start = c .before .before .before .before .before .before in
     let a = start .args in
     rw (c .before .before .before .send-due .ensures)
-    (still-asked (a .cells .now) (a .t) (a .r) (start .pre .0) _ _ _ _ _ (λ l. l) (length-window (a .cells .now) (a .t + 8) 64 (omega arith)) (λ held since status. status < 512) (start .pre .1 .1))
+    (still-asked (a .cells .now) (a .t) (a .r) (start .pre .0) _ _ _ _ _ (λ l. l) (length-window (a .cells .now) (a .t + 9) 64 (omega arith)) (λ held since status. status < 512) (start .pre .1 .1))
 
 returns : tie.Need-returns
 returns c = rw (c .before .before .take-due .ensures, c .before .before .before .before .before .before .send-due .ensures)

@@ -12,7 +12,7 @@ restart-receiver-requires : tie.Need-restart-receiver-requires
 restart-receiver-requires c κs =
     let start = c .before .before .before .before .before .before in
     let a = start .args in
-    let asked = still-asked (a .cells .now) (a .t) (a .r) (start .pre .0) _ _ _ _ _ (λ l. l) (length-window (a .cells .now) (a .t + 8) 64 (omega arith)) (λ held since status. (320 ≤ status) × (status < 512)) (start .pre .1) in
+    let asked = still-asked (a .cells .now) (a .t) (a .r) (start .pre .0) _ _ _ _ _ (λ l. l) (length-window (a .cells .now) (a .t + 9) 64 (omega arith)) (λ held since status. (320 ≤ status) × (status < 512)) (start .pre .1) in
     rw (c .before .before .before .restart-sender .ensures) (asked .0, asked .1 .0, asked .1 .1)
 
 returns : tie.Need-returns

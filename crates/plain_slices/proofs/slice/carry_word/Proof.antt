@@ -14,7 +14,7 @@ store-word-requires : tie.Need-store-word-requires
 store-word-requires c κs =
     let start = c .before .before .before .before .before .before .before .before .before in
     let a = start .args in
-    let long = length-shifted (window (a .cells .now) (a .t + 8) 64) 63 (length-window (a .cells .now) (a .t + 8) 64 (omega arith)) in
+    let long = length-shifted (window (a .cells .now) (a .t + 9) 64) 63 (length-window (a .cells .now) (a .t + 9) 64 (omega arith)) in
     let asked = still-asked (a .cells .now) (a .t) (a .r) (start .pre .0) _ _ _ _ _ shifted long (λ held since status. (held < 64) × (since < 128) × (status < 512)) (start .pre .1 .1) in
     rw (c .before .before .before .send-word .ensures) ((asked .0, asked .1 .0), (asked .1 .1, asked .1 .2))
 

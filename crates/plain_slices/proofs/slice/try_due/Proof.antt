@@ -9,12 +9,12 @@ use Rattle.plain_slices.proofs.slice.try_due.Tie as tie
 carry-due-requires : tie.Need-carry-due-requires
 carry-due-requires c κs =
     let start = c .before .before .before .before .before .before in
-    (start .pre .0, (start .pre .1 .3, in-step-says _ _ _ _ (start .pre .1 .0) (start .pre .1 .1) .listener .clear))
+    (start .pre .0, (start .pre .1 .3, in-step-says (start .args .cells .now) (start .args .t) (start .args .r) (start .args .from) (start .pre .1 .0) (start .pre .1 .1) .listener .clear))
 
 returns-3 : tie.Need-returns-3
 returns-3 c =
     let start = c .before .before .before .before .before .before .before .before .before in
-    done _ _ _ _ 1 _ (lit≤ tt) (rw (c .before .before .carry-due .ensures) (carried-due _ _ _ _ (start .pre .0) (in-step-says _ _ _ _ (start .pre .1 .0) (start .pre .1 .1)) (start .pre .1 .2) (start .pre .1 .3) (omega arith) (omega arith)))
+    done _ _ _ _ 1 _ (lit≤ tt) (rw (c .before .before .carry-due .ensures) (carried-due _ _ _ _ (start .pre .0) (in-step-says (start .args .cells .now) (start .args .t) (start .args .r) (start .args .from) (start .pre .1 .0) (start .pre .1 .1)) (start .pre .1 .2) (start .pre .1 .3) (omega arith) (omega arith)))
 
 pub try-due-spec : {M : Type 1} → statement M
 try-due-spec = tie.close (tie.spec (λ c. search needs) (λ c. search needs) (λ c. search needs) (λ c. nothing-done _ _ _ _) (λ c. search needs) (λ c. search needs) (λ c. search needs) (λ c. nothing-done _ _ _ _) carry-due-requires (λ c. search needs) returns-3)

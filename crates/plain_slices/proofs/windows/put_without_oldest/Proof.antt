@@ -16,8 +16,8 @@ use Rattle.plain_slices.proofs.windows.put_without_oldest.Tie as tie
 returns : tie.Need-returns
 returns c =
     let a = c .before .before .before .before .before .before .before .before .before .args in
-    let wide : length (shifted (window (a .cells .now) (a .at + 8) 64)) ≡ 64 =
-    simp (length-append, length-drop) (rw (length-window (a .cells .now) (a .at + 8) 64 (omega arith)) refl) in
+    let wide : length (shifted (window (a .cells .now) (a .at + 9) 64)) ≡ 64 =
+    simp (length-append, length-drop) (rw (length-window (a .cells .now) (a .at + 9) 64 (omega arith)) refl) in
     rw (c .before .before .shift .ensures, c .before .before .before .before .before .before .put-head .ensures)
     (head-then-silo (a .cells .now) (a .at) (headed (a .cells .now) (a .at) (a .held) (a .block) (a .control) (a .status) (a .crc) []) refl (omega arith) shifted wide)
 
