@@ -24,15 +24,18 @@ def shown(text):
     return ''.join(c if c.isprintable() else c.encode('unicode_escape').decode() for c in cut)
 
 
-def names_of(words, usage, least, most):
-    """The files that a tool was called with. Where the words ask for help there are none, and the usage is written."""
-    names, options = [], True
+def asked(words, usage, least, most, marks=()):
+    """The files that a tool was called with, and those of its marks, as --text, that were given. Where the words ask for help there
+    are no files, and the usage is written."""
+    names, given, options = [], set(), True
     for word in words:
         if options and word == '--':
             options = False
         elif options and word in ('-h', '--help'):
             write_all(usage.encode())
-            return None
+            return None, given
+        elif options and word in marks:
+            given.add(word)
         elif options and word.startswith('-') and word != '-':
             raise Misused('no such option: %s; --help says more' % shown(word))
         else:
@@ -41,7 +44,7 @@ def names_of(words, usage, least, most):
         raise Misused('%s; --help says more' % usage.partition('     ')[0])
     if names.count('-') > 1:
         raise Misused('standard input is named twice')
-    return names
+    return names, given
 
 
 def contents(name):

@@ -115,7 +115,7 @@ TOLD = [
 # Lines that no move prints, and what is said of them.
 UNMOVED = [
     ('5 0 0', '1:5: `5 0 0`, for record 1, has no such address'),
-    ('5 0 126', '1:5: `5 0 126`, for record 1, has no such address'),
+    ('5 0 1', '1:5: `5 0 1`, for record 1, has no such address'),
     ('5 0 129', '1:5: `5 0 129`, for record 1, has no such address'),
     ('5 0 262143', '1:5: `5 0 262143`, for record 1, has no such numbers'),
     ('5 0 262144', '1:5: `5 0 262144`, for record 1, has no such numbers'),
@@ -160,4 +160,14 @@ STRANGE = [
     ('1 0\n8 0\n4 0 32 0 0\n', '3:5: `4 0 32 0 0`, for record 3, has no such numbers'),
     ('1 0\n8 0\n4 8 2 0 0\n', '3:5: `4 8 2 0 0`, for record 3, has no such numbers'),
     ('1 0\n8 ' + '1' * 5000 + '\n', '2:3: `8 ' + '1' * 38 + '.. (5002 characters)`, for record 2, is no line of link'),
+]
+
+# Texts that are told with their comments, the lines of their calls, and what is shown above the last line.
+COMMENTED = [
+    ('', '', []),
+    ('reset 0', '7 1\n', ['reset 0  # 7 1         unit not fitted, or no such side']),
+    ('# alone # twice\n\n  # and so\n', '', ['# alone # twice', '', '  # and so']),
+    ('\ufeffreset 0#one\r\nreset 1   # zw\u00f6lf # 13\rSLICE 0 0\n\n', '7 1\n7 1\n4 8\n',
+     ['reset 0  # 7 1         unit not fitted, or no such side  # one', 'reset 1  # 7 1         unit not fitted, or no such side  # zw\u00f6lf # 13',
+      'slice    # 4 8         no master', '']),
 ]
