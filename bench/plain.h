@@ -18,14 +18,14 @@ static inline bool turns(const uint16_t *section)
 {
     unsigned word = section[SECTION_WORD], place = bits_of(word, 0, 5), counter_switch = bits_of(word, 5, 5);
 
-    return section[HELD] <= 50 && word < 8192 && 2 <= counter_switch && 1 <= place && place <= counter_switch
-        && (bits_of(word, 10, 1) || 1 <= section[HELD]);
+    return section[RING] < 3264 && section[RING] % 64 < 50 && word < 8192 && 2 <= counter_switch && 1 <= place && place <= counter_switch
+        && (bits_of(word, 10, 1) || 64 <= section[RING]);
 }
 
 /* The address that such a section gives next: the counter's, or the silo's oldest. */
 static inline unsigned next_address(const uint16_t *section)
 {
-    return bits_of(section[SECTION_WORD], 10, 1) ? bits_of(section[SECTION_WORD], 0, 5) : section[ADDRESSES] % 32;
+    return bits_of(section[SECTION_WORD], 10, 1) ? bits_of(section[SECTION_WORD], 0, 5) : section[ADDRESSES + section[RING] % 64] % 32;
 }
 
 /* The first unit with an address in its own cell k (0 its transmitter's, 1 its receiver's); the count of units where there is none. */
@@ -44,7 +44,7 @@ static inline size_t unit_with(const uint16_t *cells, size_t k, unsigned address
 static inline bool acts(const uint16_t *t)
 {
     return bits_of(t[STATUS], 6, 1)
-        || (bits_of(t[COMMAND], 13, 1) && t[HELD] != 0 && bits_of(t[COMMAND], 8, 5) != 0 && bits_of(t[STATUS], 9, 6) == 0);
+        || (bits_of(t[COMMAND], 13, 1) && 64 <= t[RING] && bits_of(t[COMMAND], 8, 5) != 0 && bits_of(t[STATUS], 9, 6) == 0);
 }
 
 /* The latched destination of an open one, else that of TCR. */
@@ -58,14 +58,14 @@ static inline unsigned addressed(const uint16_t *t)
 /* A transmitter open with ST TXM, not ending, with no error bit, which holds a word. */
 static inline bool talks(const uint16_t *t)
 {
-    return 1 <= t[HELD] && t[HELD] <= 64 && t[LATCHED] < 32 && t[ADDRESS] < 32768 && t[COUNT_LEFT] < 32768
+    return 64 <= t[RING] && t[RING] < 4160 && t[LATCHED] < 32 && t[ADDRESS] < 32768 && t[COUNT_LEFT] < 32768
         && t[COMMAND] % 2 == 1 && t[STATUS] / 64 % 2 == 1 && t[STATUS] / 256 % 128 == 0;
 }
 
 /* A receiver open with the sender, with RCV DAT and without REJ, with no error bit and no bad parity. */
 static inline bool listens(const uint16_t *r, unsigned from)
 {
-    return r[HELD] <= 64 && r[TRUNCATED] < 2 && r[ADDRESS] < 32768 && r[COUNT_LEFT] < 32768
+    return r[RING] < 4160 && r[TRUNCATED] < 2 && r[ADDRESS] < 32768 && r[COUNT_LEFT] < 32768
         && r[COMMAND] % 2 == 1 && r[COMMAND] < 32768 && r[COMMAND] / 256 % 32u == from
         && r[STATUS] / 16 % 2 == 1 && r[STATUS] < 512;
 }
@@ -85,7 +85,7 @@ static inline unsigned carried(const uint16_t *t, const uint16_t *r, unsigned fr
     if (!in_step(t, r, from))
         return 0;
     if (t[WORDS] < 128)
-        return !awaited && r[HELD] < 64 ? 3 : 0;
+        return !awaited && r[RING] < 4096 ? 3 : 0;
     if (t[WORDS] != 128)
         return 0;
     if (!awaited)
@@ -98,14 +98,14 @@ static inline unsigned carried(const uint16_t *t, const uint16_t *r, unsigned fr
 /* TX NPR, loaded, no error bit, room, RD SILO clear, and not ending, which only an open transmitter is. */
 static inline bool may_move_out(const uint16_t *t)
 {
-    return t[COMMAND] / 16384 % 2 == 1 && t[COMMAND] / 2 % 2 == 1 && t[STATUS] / 512 % 64 == 0 && t[HELD] < 64
+    return t[COMMAND] / 16384 % 2 == 1 && t[COMMAND] / 2 % 2 == 1 && t[STATUS] / 512 % 64 == 0 && t[RING] < 4096
         && !(t[COMMAND] / 128 % 2 == 1) && !(t[STATUS] / 256 % 2 == 1 && t[STATUS] / 64 % 2 == 1);
 }
 
 /* RC NPR, a word, and no error bit. */
 static inline bool may_move_in(const uint16_t *r)
 {
-    return r[COMMAND] / 16384 % 2 == 1 && r[HELD] != 0 && r[STATUS] / 512 % 64 == 0;
+    return r[COMMAND] / 16384 % 2 == 1 && 64 <= r[RING] && r[STATUS] / 512 % 64 == 0;
 }
 
 /* Numbers within their limits, a load that is loaded and goes on within its 15 bits with INH ADI clear, and a period's mark only where
@@ -134,7 +134,7 @@ static inline bool stores_plain(const uint16_t *block)
 {
     const uint16_t *r = block + RECEIVER;
 
-    return goes_on(r, 1, r[STATUS] / 16 % 2 == 1) && r[HELD] <= 64 && names_word(block, r);
+    return goes_on(r, 1, r[STATUS] / 16 % 2 == 1) && r[RING] < 4160 && names_word(block, r);
 }
 
 /* ---- a call: whether it goes the plain way, and the answer that it then has */

@@ -88,11 +88,11 @@ enum { PCL_TRANSMITTER = 0, PCL_RECEIVER = 1 };
  * cell comes to mean something else. The cells do not hold it, and no call tells
  * cells of another layout from these: a host that saves a link writes PCL_LAYOUT
  * beside the cells, and lends them again only where it reads the same number. */
-#define PCL_LAYOUT 1
+#define PCL_LAYOUT 2
 
 /* Room, in elements: the cells of a link, the numbers of a set-up. */
 #define PCL_UNITS_MOST 16
-#define PCL_CELLS(units) (2 + 216 * (size_t)(units))
+#define PCL_CELLS(units) (2 + 202 * (size_t)(units))
 #define PCL_CELLS_MOST PCL_CELLS(PCL_UNITS_MOST)
 #define PCL_SETUP(units) (4 * (size_t)(units))
 #define PCL_MEMORY_MOST 131072

@@ -72,6 +72,7 @@ static uint64_t collect_from(struct lent *lent, uint32_t unit)
     must(number < BOARD_LINK || (holds(&cells_row, lent->cells) && holds(&memory_row, memory[place])), "a refusal changed something");
     must(holds(&memory_row, memory_of_second[place]), "another word of the memory is left");
     if (in_range) {
+        memcpy(cells_before, cells, sizeof cells);
         memcpy(cells, lent_cells, cells_bytes);
         memcpy(memory[place], lent_memory, memory_bytes);
         look_at_cells("collect", PCL_DONE);

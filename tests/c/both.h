@@ -25,6 +25,8 @@ static unsigned long long calls;
 static enum { ANSWERS, CELLS, EVERYTHING } depth = EVERYTHING;
 /* Cells hold patterns that no call writes. */
 static bool untidy;
+/* How the last call leaves the silos: anew, with the master's gone on by one, or each in the place of the one before. */
+static enum { ANEW, TURNED, IN_PLACE } laid = IN_PLACE;
 
 static void differ(const char *call, const char *what, uint64_t archive, uint64_t second)
 {
@@ -58,6 +60,8 @@ static void look_at_cells(const char *call, uint32_t number)
             as_cells(&read, got);
         }
         as_cells(&l, wanted);
+        if (!untidy && laid != ANEW)
+            lay_all_over(cells_before, wanted, laid == TURNED);
         forget_unseen(wanted);
         forget_unseen(got);
     }
@@ -85,6 +89,7 @@ static void look_at_damaged_cells(const char *call)
 
     of_cells(cells, &read);
     as_cells(&read, normal);
+    lay_all_over(cells_before, normal, laid == TURNED);
     for (uint32_t unit = 0; unit < l.units; unit++) {
         size_t place = block_at(unit);
 
@@ -92,7 +97,7 @@ static void look_at_damaged_cells(const char *call)
             must_agree(call, "own cell", i, unit, cells[place + i], cells_before[place + i]);
         for (size_t k = 0; k < PARTS; k++)
             if (put_back[unit] & parts[k].bit)
-                for (uint32_t i = parts[k].first; i < parts[k].head; i++)
+                for (uint32_t i = parts[k].first; i < parts[k].known; i++)
                     must_agree(call, "cell put back,", i, unit, cells[place + i], in_normal_form(normal, place, i));
             else
                 for (uint32_t i = parts[k].first; i < parts[k].end; i++)
@@ -161,6 +166,7 @@ static uint32_t look(const char *call, uint64_t archive, uint64_t second)
         look_at_serials(call);
         memcpy(cells_before, cells, sizeof cells);
     }
+    laid = IN_PLACE;
     if (depth >= EVERYTHING)
         look_at_registers(call);
     return (uint32_t)archive;
@@ -181,6 +187,7 @@ static uint32_t call_fit(const uint32_t *setup, size_t length)
 
     puts_nothing();
     untidy = untidy && archive != PCL_DONE;
+    laid = archive == PCL_DONE ? ANEW : IN_PLACE;
     return look("fit", archive, second_fit(&l, setup, length));
 }
 
@@ -209,6 +216,7 @@ static uint32_t call_slice(uint32_t data_mask, uint32_t parity_mask)
     uint32_t archive = pcl_slice(cells, PCL_CELLS_MOST, (uint16_t)data_mask, parity_mask);
 
     expect_slice(archive);
+    laid = pcl_number(archive) == PCL_DONE ? TURNED : IN_PLACE;
     return look("slice", archive, second_slice(&l, (uint16_t)data_mask, parity_mask));
 }
 

@@ -8,9 +8,10 @@
 static struct second_link l;
 
 enum { OF_TRANSMITTER = 1, OF_RECEIVER = 2, OF_SECTION = 4 };
-static const struct part { unsigned bit; uint32_t first, head, end; } parts[] = {
-    { OF_TRANSMITTER, TRANSMITTER, TRANSMITTER + SILO, RECEIVER },
-    { OF_RECEIVER, RECEIVER, RECEIVER + SILO, SECTION },
+/* Of an address, which is read by its remainder, the cell may keep more. */
+static const struct part { unsigned bit; uint32_t first, known, end; } parts[] = {
+    { OF_TRANSMITTER, TRANSMITTER, RECEIVER, RECEIVER },
+    { OF_RECEIVER, RECEIVER, SECTION, SECTION },
     { OF_SECTION, SECTION, SECTION + ADDRESSES, BLOCK }
 };
 enum { PARTS = sizeof parts / sizeof parts[0] };

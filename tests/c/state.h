@@ -8,9 +8,9 @@
 #include "second.h"
 
 enum {
-    UNITS = 0, MASTER = 1, FIRST_BLOCK = 2, BLOCK = 216,                /* cells of a link */
+    UNITS = 0, MASTER = 1, FIRST_BLOCK = 2, BLOCK = 202,                /* cells of a link */
     TRANSMITTER = 4, RECEIVER = 77, SECTION = 150,                      /* .. of a block */
-    HELD = 0, WORDS = 1, LATCHED = 2, TRUNCATED = 2, ADDRESS = 3, COUNT_LEFT = 4,
+    RING = 0, WORDS = 1, LATCHED = 2, TRUNCATED = 2, ADDRESS = 3, COUNT_LEFT = 4,
     COMMAND = 5, STATUS = 6, CRC = 7, SERIAL = 8, SILO = 9,             /* .. of a side */
     SECTION_WORD = 1, ADDRESSES = 2                                     /* .. of a master section */
 };
@@ -28,7 +28,7 @@ static inline bool in_range(const uint16_t *cells, size_t length)
 
 static inline void side_as_cells(const struct second_side *s, uint16_t *c)
 {
-    c[HELD] = s->silo.held;
+    c[RING] = (uint16_t)(s->silo.held << 6);
     c[WORDS] = s->words;
     c[ADDRESS] = s->bus_address / 2;
     c[COUNT_LEFT] = s->byte_count / 2;
@@ -55,14 +55,15 @@ static inline void unit_as_cells(const struct second_unit *u, uint16_t *c)
     c[RECEIVER + TRUNCATED] = r->truncated;
     c[RECEIVER + STATUS] |= (uint16_t)(r->side.open << 4 | (r->verdict != 0) << 6 | (r->verdict == 1) << 8
                                        | r->bad_parity << 15);
-    c[SECTION + HELD] = m->silo.held;
+    c[SECTION + RING] = (uint16_t)(m->silo.held << 6);
     c[SECTION + SECTION_WORD] = (uint16_t)(m->counter | m->counter_switch << 5 | m->automatic << 10
                                            | m->secondary << 11 | m->now_master << 12);
     for (unsigned i = 0; i < m->silo.held; i++)
         c[SECTION + ADDRESSES + i] = m->silo.address[(m->silo.first + i) % SECOND_RING];
 }
 
-/* The PCL_CELLS(units) cells that hold what the second library's state holds. */
+/* The PCL_CELLS(units) cells that hold what the second library's state holds, as after a fit: each silo's words from its first cell on,
+ * and zeros behind them. */
 static inline void as_cells(const struct second_link *l, uint16_t *cells)
 {
     memset(cells, 0, PCL_CELLS(l->units) * sizeof *cells);
@@ -78,15 +79,46 @@ static inline void as_cells(const struct second_link *l, uint16_t *cells)
     }
 }
 
-/* ---- and back: what every pattern of the cells means */
-
 static inline unsigned at_most(unsigned value, unsigned most) { return value < most ? value : most; }
+
+/* A silo whose words stand from its first cell on, put in the place of the one before: the start goes on by as many places as there are
+ * words fewer, or by one where the oldest went and came back at the end, and every cell without a word stays. */
+static inline void lay_over(const uint16_t *before, uint16_t *after, size_t ring, unsigned size, bool turned)
+{
+    uint16_t words[SECOND_DATA_SILO];
+    unsigned held = after[RING] >> 6, held_before = at_most(before[RING] >> 6, size),
+             gone = turned ? 1 : held_before > held ? held_before - held : 0, start = (before[RING] % 64 % size + gone) % size;
+
+    memcpy(words, after + ring, size * sizeof *words);
+    memcpy(after + ring, before + ring, size * sizeof *after);
+    for (unsigned i = 0; i < held; i++)
+        after[ring + (start + i) % size] = words[i];
+    after[RING] = (uint16_t)(start | held << 6);
+}
+
+/* Every silo of cells that as_cells made, in the place of the one before. `turned` says that a slice had a master: in silo mode its
+ * oldest address went and came back. */
+static inline void lay_all_over(const uint16_t *before, uint16_t *after, bool turned)
+{
+    for (size_t unit = 0; unit < after[UNITS]; unit++) {
+        const uint16_t *b = before + block_at(unit);
+        uint16_t *a = after + block_at(unit);
+
+        lay_over(b + TRANSMITTER, a + TRANSMITTER, SILO, SECOND_DATA_SILO, false);
+        lay_over(b + RECEIVER, a + RECEIVER, SILO, SECOND_DATA_SILO, false);
+        lay_over(b + SECTION, a + SECTION, ADDRESSES, SECOND_ADDRESS_SILO,
+                 turned && after[MASTER] == unit + 1 && !(a[SECTION + SECTION_WORD] & 1024));
+    }
+}
+
+/* ---- and back: what every pattern of the cells means */
 
 static inline void side_of_cells(const uint16_t *c, struct second_side *s)
 {
     memset(s, 0, sizeof *s);
-    s->silo.held = (uint8_t)at_most(c[HELD], SECOND_DATA_SILO);
-    memcpy(s->silo.word, c + SILO, sizeof s->silo.word);
+    s->silo.held = (uint8_t)at_most(c[RING] >> 6, SECOND_DATA_SILO);
+    for (unsigned i = 0; i < s->silo.held; i++)
+        s->silo.word[i] = c[SILO + (c[RING] % 64 + i) % SECOND_DATA_SILO];
     s->words = (uint8_t)at_most(c[WORDS], 128);
     s->bus_address = (uint16_t)(c[ADDRESS] % 32768 * 2);
     s->byte_count = (uint16_t)(c[COUNT_LEFT] % 32768 * 2);
@@ -125,9 +157,9 @@ static inline void master_of_cells(const uint16_t *c, struct second_master *m)
     unsigned word = c[SECTION_WORD], place = word & 31;
 
     memset(m, 0, sizeof *m);
-    m->silo.held = (uint8_t)at_most(c[HELD], SECOND_ADDRESS_SILO);
+    m->silo.held = (uint8_t)at_most(c[RING] >> 6, SECOND_ADDRESS_SILO);
     for (unsigned i = 0; i < m->silo.held; i++)
-        m->silo.address[i] = c[ADDRESSES + i] % 32;
+        m->silo.address[i] = c[ADDRESSES + (c[RING] % 64 + i) % SECOND_ADDRESS_SILO] % 32;
     m->counter_switch = (uint8_t)((word >> 5 & 31) < 2 ? 2 : word >> 5 & 31);
     m->counter = (uint8_t)(place < 1 || place > m->counter_switch ? m->counter_switch : place);
     /* "An empty address silo sets AUT ADR at once." */

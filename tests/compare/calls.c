@@ -279,8 +279,9 @@ static uint16_t *open_channel(uint32_t unit, uint32_t place)
 /* What two ends do that are not in step. Since an opening word is marked no call leads there, but cells can hold it. */
 static void out_of_step(void)
 {
-    *open_channel(OF_R, RECEIVER + WORDS) = 128;            /* the word is what R takes for the due CRC .. */
-    cells[block_at(OF_T) + TRANSMITTER + SILO] = cells[block_at(OF_R) + RECEIVER + CRC];
+    *open_channel(OF_R, RECEIVER + WORDS) = 128;            /* the oldest word is what R takes for the due CRC .. */
+    cells[block_at(OF_T) + TRANSMITTER + SILO + cells[block_at(OF_T) + TRANSMITTER + RING] % SECOND_DATA_SILO] =
+        cells[block_at(OF_R) + RECEIVER + CRC];
     read_damage();
     must(got(served(OF_T, 0, 0), 2, 1) && got(served(OF_T, 0, 0), 2, 3), "a word is not taken as a good CRC");
     *open_channel(OF_R, RECEIVER + WORDS) = 128;            /* .. or a bad one */

@@ -9,6 +9,8 @@ use native.Mathlib.Omega.{arith}
 use lib.Count.{ones}
 use lib.Dec.{lit≤}
 use lib.ListN.{replicate}
+use Rattle.cells.specs.Fitted.{unitFitted}
+use Rattle.codec.specs.Rings.{inOrder, laidFrom}
 use Rattle.board.specs.declared.answers.ReceiveCall.{ReceiveCall}
 use Rattle.cells.specs.Fitted.{transmitterOf}
 use Rattle.cells.specs.Ranges.{inRange}
@@ -38,7 +40,7 @@ abbrev words : List ℕ
 words = 6 ∷ 1 ∷ 3 ∷ 7 ∷ 65535 ∷ 0 ∷ []
 
 abbrev blank : World
-blank = record { cells = replicate 218 0; memory = λ k. replicate 80 9 }
+blank = record { cells = replicate 204 0; memory = λ k. replicate 80 9 }
 
 -- one unit, its addresses 1 and 1, its switch 2, with 80 words of memory; the words from word 1 on; MASTER and AUT ADR; a load of six words
 -- from word 1 on, ST TXM, SND WD and TX NPR to receiver 1; one of them is moved; a load of six words to word 70, RCV DAT, RCV WD and
@@ -68,27 +70,27 @@ start =
     record {
       cells =
           (1 ∷ 1 ∷ 0 ∷ 0 ∷ 0 ∷ 79 ∷ [])
-          ++ (1 ∷ 0 ∷ 0 ∷ 2 ∷ 32763 ∷ 24835 ∷ 0 ∷ 0 ∷ 0 ∷ 6 ∷ [])
+          ++ (64 ∷ 0 ∷ 0 ∷ 2 ∷ 32763 ∷ 24835 ∷ 0 ∷ 0 ∷ 0 ∷ 6 ∷ [])
           ++ replicate 63 0
           ++ (0 ∷ 0 ∷ 0 ∷ 70 ∷ 32762 ∷ 24579 ∷ 0 ∷ 0 ∷ 0 ∷ [])
           ++ replicate 64 0
           ++ (0 ∷ 1089 ∷ [])
-          ++ replicate 64 0;
+          ++ replicate 50 0;
       memory = λ k. 9 ∷ words ++ replicate 73 9;
     }
 
 set-up : run setting blank .cells ≡ start .cells
-unfolding unitsFitted takenBy unitsGood firstOf inRange
+unfolding unitFitted unitsFitted takenBy unitsGood firstOf inRange inOrder laidFrom
 set-up = refl
 
 set-up-memory : run setting blank .memory 0 ≡ start .memory 0
-unfolding unitsFitted takenBy unitsGood firstOf inRange
+unfolding unitFitted unitsFitted takenBy unitsGood firstOf inRange inOrder laidFrom
 set-up-memory = refl
 
 -- ---- the next slice opens a message of six words
 
 opening : Opening start
-unfolding firstOf inRange ones
+unfolding firstOf inRange ones inOrder laidFrom
 opening =
     record {
       answered = refl;
@@ -127,7 +129,7 @@ opening =
 
 -- which is the one that building makes in the memory, from word 1 on
 in-memory : InMemory (transmitterOf (start .cells) 0) (start .memory 0) numbers 6
-unfolding firstOf inRange ones anyReserved
+unfolding firstOf inRange ones anyReserved inOrder laidFrom
 in-memory =
     record {
       before = replicate 80 9;
@@ -144,7 +146,7 @@ in-memory =
 -- ---- what is given, by the theorem
 
 sent : Sent start numbers 6
-unfolding firstOf inRange ones
+unfolding firstOf inRange ones inOrder laidFrom
 sent = built-in-memory start numbers 6 in-memory
 
 arrives : (es : List Event) × Meets start es × Given start numbers (after start es)
@@ -168,7 +170,7 @@ abbrev before : List ℕ
 before = 0 ∷ 1 ∷ 2 ∷ 3 ∷ 4 ∷ 5 ∷ 6 ∷ []
 
 counted : (slicesOf 6 ≡ 7) × (map (λ k. ownSlices start (events k)) before ≡ before) × (ownSlices start (events 7) ≡ 7) × (first start ≡ 140)
-unfolding firstOf inRange ones crcWord crcBits
+unfolding firstOf inRange ones crcWord crcBits inOrder laidFrom
 counted = (refl, refl, refl, refl)
 
 -- they meet the conditions: the moves are at R's unit, and before each of T's slices one more move of either end would answer 4
@@ -179,7 +181,7 @@ not-own : other ≡ own → ⊥
 not-own e = let one : _≡_ {A = ℕ} 0 1 = ap (λ (k : Kind). owns (k ∷ [])) e in omega arith
 
 moved : (side : ℕ) (w : World) → Allowed (parties start) (message start) (move 0 side) w
-unfolding firstOf inRange ones
+unfolding firstOf inRange ones inOrder laidFrom
 moved side w e theirs = absurd (theirs refl)
 
 loaded : (k : ℕ) (w : World) (es : List Event) → Keeps (run (times k (move 0 0 ∷ [])) w) es → Keeps w (times k (move 0 0 ∷ []) ++ es)
@@ -190,7 +192,7 @@ turned : (w : World) (es : List Event) → kindOf (message start .from) (slice 0
     → numberOf (move 0 0) (run (move 0 1 ∷ slice 0 0 ∷ []) w) ≡ 4
     → numberOf (move 0 1) (run (move 0 1 ∷ slice 0 0 ∷ []) w) ≡ 4
     → Keeps (run turn w) es → Keeps w (turn ++ es)
-unfolding firstOf inRange ones
+unfolding firstOf inRange ones inOrder laidFrom
 turned w es theirs t r rest =
     (moved 1 w, (λ e mine. absurd (not-own (sym theirs ∙ mine)), (λ e mine. record { dataUndamaged = refl; parityUndamaged = refl; senderMoved = t; receiverMoved = r }, rest)))
 
@@ -198,7 +200,7 @@ abbrev at : ℕ → World
 at k = after start (events k)
 
 meets : Meets start (events 7)
-unfolding firstOf inRange ones crcWord crcBits
+unfolding firstOf inRange ones crcWord crcBits inOrder laidFrom
 meets =
     loaded 5 (opened start) (times 7 turn)
     (turned (at 0) (times 6 turn) refl refl refl
@@ -211,7 +213,7 @@ meets =
 
 -- so that the theorem gives the readings after this run, of which T has seven slices
 given-by-theorem : Given start numbers (after start (events 7))
-unfolding firstOf inRange ones crcWord crcBits
+unfolding firstOf inRange ones crcWord crcBits inOrder laidFrom
 given-by-theorem = arrival start opening numbers 6 sent (events 7) meets .fromThen (lit≤ tt)
 
 -- ---- what receiving then answers, computed
@@ -222,18 +224,18 @@ received k = let r = receiving start (after start (events k)) (replicate 64 9) i
 
 -- before the opening, and after each slice before the seventh
 not-opened : receiving start start (replicate 64 9) ≡ (ReceiveCall.Message Read.NotComplete 0, start .cells, replicate 64 9)
-unfolding firstOf inRange ones
+unfolding firstOf inRange ones inOrder laidFrom
 not-opened = refl
 
 not-complete : map received before ≡ replicate 7 (ReceiveCall.Message Read.NotComplete 1, replicate 64 9)
-unfolding firstOf inRange ones crcWord crcBits
+unfolding firstOf inRange ones crcWord crcBits inOrder laidFrom
 not-complete = refl
 
 given : received 7 ≡ (ReceiveCall.Message (Read.Readings (record { count = 3 })) 1, 7 ∷ 65536 ∷ 0 ∷ replicate 61 9)
-unfolding firstOf inRange ones crcWord crcBits
+unfolding firstOf inRange ones crcWord crcBits inOrder laidFrom
 given = refl
 
 -- the memory then: the words where they were built, and once more from word 70 on
 stored : after start (events 7) .memory 0 ≡ 9 ∷ words ++ replicate 63 9 ++ words ++ replicate 4 9
-unfolding firstOf inRange ones crcWord crcBits
+unfolding firstOf inRange ones crcWord crcBits inOrder laidFrom
 stored = refl

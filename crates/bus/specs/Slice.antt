@@ -5,7 +5,7 @@ use mathlib.Core.List.{List}
 use Prim.Native.Nat.{ℕ, _-_}
 use lib.Dec.{eqb, ltb}
 use Rattle.answering.specs.Choice.{openWithAnother}
-use Rattle.cells.specs.Fitted.{transmitterOf, receiverOf, masterOf, putTransmitter, putReceiver, putMaster}
+use Rattle.cells.specs.Fitted.{transmitterOf, receiverOf, masterOf, putTransmitter, putReceiver, putNext}
 use Rattle.cells.specs.Layout.{countIn, holderIn}
 use Rattle.cells.specs.Search.{firstTransmitter, firstReceiver}
 use Rattle.laws.specs.Pick.{pick}
@@ -70,7 +70,7 @@ served cells address mask parity = servedOr cells (firstTransmitter cells (count
 -- the master's counter or silo steps (reading 20)
 
 abbrev pub afterNext : List ℕ → ℕ → Next → ℕ → Bool → Given × List ℕ
-afterNext cells unit next mask parity = served (putMaster cells unit (next .side)) (next .address) mask parity
+afterNext cells unit next mask parity = served (putNext cells unit (next .side)) (next .address) mask parity
 
 abbrev pub masterSlice : List ℕ → ℕ → ℕ → Bool → Given × List ℕ
 masterSlice cells unit mask parity = afterNext cells unit (nextOf (masterOf cells unit)) mask parity

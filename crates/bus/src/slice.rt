@@ -9,7 +9,7 @@ use cells::layout::UNITS;
 use cells::search::find_receiver;
 use cells::search::find_transmitter;
 use cells::sides::master_of;
-use cells::sides::put_master;
+use cells::sides::put_next;
 use cells::sides::put_receiver;
 use cells::sides::put_transmitter;
 use cells::sides::receiver_of;
@@ -27,9 +27,10 @@ ghost use mathlib.Core.Bool.{true, false};
 ghost use mathlib.Core.Path.{_≡_};
 ghost use mathlib.Core.List.{List};
 ghost use Prim.Native.Nat.{ℕ, _<_};
-ghost use Rattle.cells.specs.Fitted.{Fitted, masterOf, putMaster};
+ghost use Rattle.cells.specs.Fitted.{Fitted, masterOf, putNext};
 ghost use Rattle.cells.specs.Ranges.{inRange};
 ghost use Rattle.master.specs.Section.{nextOf};
+ghost use Rattle.bus.specs.Plain.{HeardInPlace};
 ghost use Rattle.bus.specs.Slice.{unheard, heardBy, actingSlice, sliceOf, served, masterSlice, slicePassed};
 
 // The address that the master gave, and the codes A and B.
@@ -77,36 +78,48 @@ fn exchange_with(
     pair.codes
 }
 
-// The plain slice in place, every other by value.
-fn hear_undamaged(cells: &mut [u16], unit: usize, other: usize, from: u16) -> Codes
+// The plain slice in place: its code B, or 0 where it is damaged or otherwise not plain, and nothing is done.
+fn carry_undamaged(
+    cells: &mut [u16],
+    unit: usize,
+    other: usize,
+    from: u16,
+    mask: u16,
+    parity: bool,
+) -> u16
     requires { ⌜ Fitted (now cells) unit × Fitted (now cells) other ⌝ }
-    requires { ⌜ from < 32 ⌝ }
-    ensures { λ r. ⌜ _≡_ {A = Codes × List ℕ} (r, now (cells .exit)) (heardBy (now (cells .entry)) unit other from 0 false) ⌝ }
+    ensures { λ b. ⌜ HeardInPlace (now (cells .entry)) unit other from mask parity b (now (cells .exit)) ⌝ }
 {
-    let b = carry(
+    if mask != 0 {
+        return 0;
+    }
+    if parity {
+        return 0;
+    }
+    carry(
         cells,
         HEADER + unit * BLOCK + TRANSMITTER,
         HEADER + other * BLOCK + RECEIVER,
         from,
-    );
-    if b != 0 {
-        return Codes { a: 2, b };
-    }
-    exchange_with(cells, unit, other, from, 0, false)
+    )
 }
 
+// The plain slice in place, every other by value. Its codes are copied one by one: so those of the slice in place need not go through the
+// memory that a call answers in, to be read back from there as one, which takes a processor longer than the rest of the slice.
 fn hear(cells: &mut [u16], unit: usize, other: usize, from: u16, mask: u16, parity: bool) -> Codes
     requires { ⌜ Fitted (now cells) unit × Fitted (now cells) other ⌝ }
     requires { ⌜ from < 32 ⌝ }
     ensures { λ r. ⌜ _≡_ {A = Codes × List ℕ} (r, now (cells .exit)) (heardBy (now (cells .entry)) unit other from mask parity) ⌝ }
 {
-    if mask != 0 {
-        return exchange_with(cells, unit, other, from, mask, parity);
+    let b = carry_undamaged(cells, unit, other, from, mask, parity);
+    if b != 0 {
+        return Codes { a: 2, b };
     }
-    if parity {
-        return exchange_with(cells, unit, other, from, mask, parity);
+    let codes = exchange_with(cells, unit, other, from, mask, parity);
+    Codes {
+        a: codes.a,
+        b: codes.b,
     }
-    hear_undamaged(cells, unit, other, from)
 }
 
 // The slice of a transmitter that acts.
@@ -119,7 +132,11 @@ fn serve_acting(cells: &mut [u16], unit: usize, from: u16, mask: u16, parity: bo
     if other < UNITS {
         return hear(cells, unit, other, from, mask, parity);
     }
-    send_unheard(cells, unit)
+    let codes = send_unheard(cells, unit);
+    Codes {
+        a: codes.a,
+        b: codes.b,
+    }
 }
 
 // The slice of a transmitter that was found. One that does not act leaves every cell.
@@ -156,14 +173,14 @@ fn serve(cells: &mut [u16], address: u16, mask: u16, parity: bool) -> Given
 // The master's next address: in place where the section is a plain one.
 fn take_next(cells: &mut [u16], unit: usize) -> u16
     requires { ⌜ Fitted (now cells) unit ⌝ }
-    ensures { λ r. ⌜ _≡_ {A = ℕ × List ℕ} (r, now (cells .exit)) (nextOf (masterOf (now (cells .entry)) unit) .address, putMaster (now (cells .entry)) unit (nextOf (masterOf (now (cells .entry)) unit) .side)) ⌝ }
+    ensures { λ r. ⌜ _≡_ {A = ℕ × List ℕ} (r, now (cells .exit)) (nextOf (masterOf (now (cells .entry)) unit) .address, putNext (now (cells .entry)) unit (nextOf (masterOf (now (cells .entry)) unit) .side)) ⌝ }
 {
     if turns_at(cells, unit) {
         return turn_at(cells, unit);
     }
     let section = master_of(cells, unit);
     let next = section.next_address();
-    put_master(cells, unit, next.side);
+    put_next(cells, unit, next.side);
     next.address
 }
 

@@ -1,4 +1,4 @@
--- Where everything lies in the lent cells: a header of 2 cells, and a block of 216 for each fitted unit. docs/STATE.md has the table.
+-- Where everything lies in the lent cells: a header of 2 cells, and a block of 202 for each fitted unit. docs/STATE.md has the table.
 -- Assumes nothing.
 use mathlib.Core.List.{List, [], _∷_}
 use Prim.Native.Nat.{ℕ, _+_, _-_, _*_, _/_, _%_, _^_, min}
@@ -26,10 +26,10 @@ holderIn cells = cell cells HOLDER
 abbrev pub putHolder : List ℕ → ℕ → List ℕ
 putHolder cells holder = set cells HOLDER holder
 
--- ---- a unit's block: 4 cells of its own, 73 of its transmitter, 73 of its receiver, 66 of its master section
+-- ---- a unit's block: 4 cells of its own, 73 of its transmitter, 73 of its receiver, 52 of its master section
 
 abbrev pub unitPlace : ℕ → ℕ
-unitPlace u = 2 + u * 216
+unitPlace u = 2 + u * 202
 
 abbrev pub transmitterPlace : ℕ → ℕ
 transmitterPlace u = unitPlace u + 4

@@ -1,4 +1,4 @@
-// Where everything lies in the lent cells: a header of 2 cells, and a block of 216 for each fitted unit.
+// Where everything lies in the lent cells: a header of 2 cells, and a block of 202 for each fitted unit.
 
 // The most units that a link has.
 pub const UNITS: usize = 16;
@@ -10,8 +10,8 @@ pub const COUNT: usize = 0;
 
 pub const HOLDER: usize = 1;
 
-// A unit's block: 4 cells of its own, 73 of its transmitter, 73 of its receiver, 66 of its master section.
-pub const BLOCK: usize = 216;
+// A unit's block: 4 cells of its own, 73 of its transmitter, 73 of its receiver, 52 of its master section.
+pub const BLOCK: usize = 202;
 
 pub const TRANSMITTER: usize = 4;
 

@@ -6,6 +6,7 @@ use crate::layout::RECEIVER;
 use crate::layout::TRANSMITTER;
 use codec::masters::load_master;
 use codec::masters::store_master;
+use codec::masters::store_next;
 use codec::receivers::load_receiver;
 use codec::receivers::store_receiver;
 use codec::transmitters::load_transmitter;
@@ -14,7 +15,7 @@ use master::side::Master;
 use receiver::side::Receiver;
 use transmitter::side::Transmitter;
 ghost use mathlib.Core.Path.{_≡_};
-ghost use Rattle.cells.specs.Fitted.{Fitted, transmitterOf, receiverOf, masterOf, putTransmitter, putReceiver, putMaster};
+ghost use Rattle.cells.specs.Fitted.{Fitted, transmitterOf, receiverOf, masterOf, putTransmitter, putReceiver, putMaster, putNext};
 ghost use Rattle.master.specs.Side as M;
 ghost use Rattle.receiver.specs.Side as R;
 ghost use Rattle.transmitter.specs.Side as T;
@@ -59,4 +60,12 @@ pub fn put_master(cells: &mut [u16], unit: usize, m: Master)
     ensures { λ _. ⌜ now (cells .exit) ≡ putMaster (now (cells .entry)) unit m ⌝ }
 {
     store_master(cells, HEADER + unit * BLOCK + MASTER, m);
+}
+
+// A section gone on by a slice.
+pub fn put_next(cells: &mut [u16], unit: usize, m: Master)
+    requires { ⌜ Fitted (now cells) unit × M.Within m ⌝ }
+    ensures { λ _. ⌜ now (cells .exit) ≡ putNext (now (cells .entry)) unit m ⌝ }
+{
+    store_next(cells, HEADER + unit * BLOCK + MASTER, m);
 }

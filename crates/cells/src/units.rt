@@ -15,7 +15,7 @@ ghost use mathlib.Core.Path.{_≡_};
 ghost use Prim.Native.Nat.{_+_, _≤_, _<_};
 ghost use lib.ListN.{length};
 ghost use Rattle.codec.specs.Window.{cell, splice};
-ghost use Rattle.cells.specs.Fitted.{Fitted};
+ghost use Rattle.cells.specs.Fitted.{Fitted, blank};
 ghost use Rattle.cells.specs.Layout.{countIn, holderIn, putHolder, addressIn, memoryLength, secondaryIn, encUnit};
 
 // A cell as a wide number, for sums.
@@ -85,6 +85,15 @@ pub fn secondary_in(cells: &[u16], u: usize) -> usize
     ensures { λ r. ⌜ r ≡ secondaryIn (now (cells .entry)) u ⌝ }
 {
     bits_at(cells[HEADER + u * BLOCK + MASTER + SECTION], SEC, 1) as usize
+}
+
+// A unit's block of zeros.
+pub fn blank_unit(cells: &mut [u16], unit: usize)
+    requires { ⌜ Fitted (now cells) unit ⌝ }
+    ensures { λ _. ⌜ now (cells .exit) ≡ blank (now (cells .entry)) unit ⌝ }
+{
+    let zeros = [0u16; BLOCK];
+    put(cells, HEADER + unit * BLOCK, &zeros);
 }
 
 // A unit's own cells into its block.

@@ -10,8 +10,8 @@ use Rattle.cells.specs.Layout.{countIn}
 use Rattle.pcl.specs.declared.answers.SerialCall.{SerialCall}
 use Rattle.promise.specs.Reports.{Serial}
 use Rattle.promise.specs.laws.RegisterReads.{serial-is}
-use Rattle.promise.specs.World.{World, Event, fit, numberOf, step}
-use Rattle.channels.specs.History.{AllHanded, Past, fresh, past}
+use Rattle.promise.specs.World.{World, Event, fit, AllHanded, numberOf, step}
+use Rattle.channels.specs.History.{Past, fresh, past}
 use Rattle.channels.specs.Statement.{Channels}
 use Rattle.channels.specs.laws.Events.{fit-done}
 use Rattle.channels.specs.laws.Runs.{Counted, Sound, joined-since, kept-so, opened-by, opens-with, outlasts, own-opening, past-counted, past-sound, same-sender, shown-count, shown-together, stored-from, succeeded-between}

@@ -7,6 +7,8 @@ use mathlib.Core.Path.{_≡_, refl}
 use Prim.Native.Nat.{ℕ, _+_, _*_, _^_}
 use lib.Count.{ones}
 use lib.ListN.{replicate}
+use Rattle.cells.specs.Fitted.{unitFitted}
+use Rattle.codec.specs.Rings.{inOrder, laidFrom}
 use Rattle.cells.specs.Fitted.{receiverOf}
 use Rattle.cells.specs.Ranges.{inRange}
 use Rattle.cells.specs.Search.{firstOf}
@@ -22,14 +24,14 @@ use Rattle.channels.specs.History.{Past, past, receiverOpen, receiverSer
 
 -- cells that hold anything: the fit writes them all
 abbrev blank : World
-blank = record { cells = replicate 434 7; memory = λ k. [] }
+blank = record { cells = replicate 406 7; memory = λ k. [] }
 
 -- two units, with the addresses 1 and 2
 abbrev setup : List ℕ
 setup = (1 ∷ 1 ∷ 2 ∷ 1 ∷ []) ++ (2 ∷ 2 ∷ 2 ∷ 1 ∷ [])
 
 fitted : numberOf (fit setup) blank ≡ 0
-unfolding unitsFitted takenBy unitsGood
+unfolding unitFitted unitsFitted takenBy unitsGood inOrder laidFrom
 fitted = refl
 
 -- ST TXM and SND WD, to receiver 2; RCV DAT and RCV WD
@@ -57,17 +59,17 @@ shown p = (senderOpen (p .world) 0, receiverOpen (p .world) 1, p .sender 0, p .r
 
 -- both open in event 7
 opened : shown (past opening (begun blank setup fitted)) ≡ (true, true, 7, 7, 7 ∷ [])
-unfolding unitsFitted takenBy unitsGood firstOf inRange ones crcWord crcBits
+unfolding unitFitted unitsFitted takenBy unitsGood firstOf inRange ones crcWord crcBits inOrder laidFrom
 opened = refl
 
 -- 11 is not stored as the rest of the first message: it closes R
 restarted : shown (past (opening ++ restart) (begun blank setup fitted)) ≡ (false, false, 7, 7, 7 ∷ [])
-unfolding unitsFitted takenBy unitsGood firstOf inRange ones crcWord crcBits
+unfolding unitFitted unitsFitted takenBy unitsGood firstOf inRange ones crcWord crcBits inOrder laidFrom
 restarted = refl
 
 -- both open again, in event 17. 7 still stands in R's silo: R's host did no RC INIT
 opened-again : shown (past (opening ++ restart ++ again) (begun blank setup fitted)) ≡ (true, true, 17, 17, 7 ∷ 11 ∷ [])
-unfolding unitsFitted takenBy unitsGood firstOf inRange ones crcWord crcBits
+unfolding unitFitted unitsFitted takenBy unitsGood firstOf inRange ones crcWord crcBits inOrder laidFrom
 opened-again = refl
 
 -- ---- the serials: T's, R's, and that of unit 0's own receiver
@@ -88,27 +90,27 @@ elsewhere =
 
 -- the first opening has the serial 1; TX INIT keeps it, and the word that closes R leaves it
 serials-opened : serials (past opening (begun blank setup fitted)) ≡ (1, 1, 0)
-unfolding unitsFitted takenBy unitsGood firstOf inRange ones crcWord crcBits
+unfolding unitFitted unitsFitted takenBy unitsGood firstOf inRange ones crcWord crcBits inOrder laidFrom
 serials-opened = refl
 
 serials-restarted : serials (past (opening ++ restart) (begun blank setup fitted)) ≡ (1, 1, 0)
-unfolding unitsFitted takenBy unitsGood firstOf inRange ones crcWord crcBits
+unfolding unitFitted unitsFitted takenBy unitsGood firstOf inRange ones crcWord crcBits inOrder laidFrom
 serials-restarted = refl
 
 -- T counts its openings to every receiver, and a receiver has the serial of its own last one
 serials-elsewhere : serials (past (opening ++ restart ++ elsewhere) (begun blank setup fitted)) ≡ (2, 1, 2)
-unfolding unitsFitted takenBy unitsGood firstOf inRange ones crcWord crcBits
+unfolding unitFitted unitsFitted takenBy unitsGood firstOf inRange ones crcWord crcBits inOrder laidFrom
 serials-elsewhere = refl
 
 serials-again : serials (past (opening ++ restart ++ elsewhere ++ again) (begun blank setup fitted)) ≡ (3, 3, 2)
-unfolding unitsFitted takenBy unitsGood firstOf inRange ones crcWord crcBits
+unfolding unitFitted unitsFitted takenBy unitsGood firstOf inRange ones crcWord crcBits inOrder laidFrom
 serials-again = refl
 
 -- RC INIT and reset keep them, and a fit makes them 0
 serials-kept : serials (past (opening ++ restart ++ elsewhere ++ again ++ (write 1 16 (2 ^ RCR.RC-INIT) ∷ reset 0 ∷ [])) (begun blank setup fitted)) ≡ (3, 3, 2)
-unfolding unitsFitted takenBy unitsGood firstOf inRange ones crcWord crcBits
+unfolding unitFitted unitsFitted takenBy unitsGood firstOf inRange ones crcWord crcBits inOrder laidFrom
 serials-kept = refl
 
 serials-fitted : serials (past (opening ++ restart ++ elsewhere ++ again ++ (fit setup ∷ [])) (begun blank setup fitted)) ≡ (0, 0, 0)
-unfolding unitsFitted takenBy unitsGood firstOf inRange ones crcWord crcBits
+unfolding unitFitted unitsFitted takenBy unitsGood firstOf inRange ones crcWord crcBits inOrder laidFrom
 serials-fitted = refl

@@ -3,7 +3,7 @@
 -- Assumes nothing.
 use mathlib.Core.Bool.{Bool, false, not, _&&_}
 use mathlib.Core.List.{List, [], _∷_}
-use Prim.Native.Nat.{ℕ, _+_, _^_, _<_}
+use Prim.Native.Nat.{ℕ, _+_}
 use lib.Dec.{eqb}
 use Rattle.cells.specs.Fitted.{transmitterOf, receiverOf}
 use Rattle.laws.specs.Pick.{pick}
@@ -74,21 +74,3 @@ senderSerial w unit = transmitterOf (w .cells) unit .end .serial
 
 abbrev pub receiverSerial : World → ℕ → ℕ
 receiverSerial w unit = receiverOf (w .cells) unit .end .serial
-
--- what a call can be handed: a word has 16 bits, a byte 8
-abbrev pub Handed : Event → Type 0
-Handed (fit setup) = Unit {0}
-Handed (write unit offset word) = word < 2 ^ 16
-Handed (writeByte unit offset byte) = byte < 2 ^ 8
-Handed (read unit offset) = Unit {0}
-Handed (slice mask parity) = Unit {0}
-Handed (move unit side) = Unit {0}
-Handed (period unit) = Unit {0}
-Handed (reset unit) = Unit {0}
-Handed (level unit side) = Unit {0}
-Handed (serial unit side) = Unit {0}
-Handed (hostWrite unit place word) = Unit {0}
-
-abbrev pub AllHanded : List Event → Type 0
-AllHanded [] = Unit {0}
-AllHanded (e ∷ es) = Handed e × AllHanded es

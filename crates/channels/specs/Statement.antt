@@ -13,12 +13,12 @@ use Rattle.pcl.specs.Numbers.{aOf, addressOf, bOf, sliceNumber, sliceValue}
 use Rattle.pcl.specs.declared.answers.SliceCall.{SliceCall}
 use Rattle.promise.specs.Kinds.{kindOf, own}
 use Rattle.promise.specs.Reports.{Serial}
-use Rattle.promise.specs.World.{World, Event, fit, write, writeByte, read, slice, move, period, reset, level, serial, hostWrite, step}
+use Rattle.promise.specs.World.{World, Event, fit, write, writeByte, read, slice, move, period, reset, level, serial, hostWrite, Handed, AllHanded, step}
 use Rattle.receiver.specs.declared.side.Receiver.{Receiver}
 use Rattle.sending.specs.Choice.{chosen, codeOf, sentBy}
 use Rattle.silos.specs.Silo.{count, oldest, words}
 use Rattle.transmitter.specs.declared.side.Transmitter.{Transmitter}
-use Rattle.channels.specs.History.{AllHanded, Handed, Past, fitsAgain, next, opensNow, past, receiverOpen, receiverSerial, senderOpen}
+use Rattle.channels.specs.History.{Past, fitsAgain, next, opensNow, past, receiverOpen, receiverSerial, senderOpen}
 
 -- ---- a channel open at both ends
 

@@ -1,23 +1,25 @@
 -- What the windows of a transmitter and of a receiver have in common: 73 cells, of which the first nine are the head and the others the
--- silo's. Every pattern of the cells has a meaning (docs/STATE.md has the table): each number is read within its limits.
+-- silo's ring. Every pattern of the cells has a meaning (docs/STATE.md has the table): each number is read within its limits.
 -- Assumes nothing.
 use mathlib.Core.Bool.{Bool}
 use mathlib.Core.List.{List, [], _∷_, _++_}
 use Prim.Native.Nat.{ℕ, _+_, _*_, _/_, _%_, _^_, min}
 use Rattle.ends.specs.declared.End.{End}
 use Rattle.laws.specs.Bits.{bits, bitAt}
+use Rattle.silos.specs.Silo.{words}
 use Rattle.silos.specs.declared.Silo.{Silo}
 use Rattle.words.specs.Address.{at, lowOf}
 use Rattle.words.specs.Count.{inBytes}
 use Rattle.words.specs.declared.codes.Codes.{Codes}
 use Rattle.words.specs.declared.load.Load.{Load}
+use Rattle.codec.specs.Rings.{siloOf, startFor, laidFrom, ringCell}
 use Rattle.codec.specs.Window.{cell, window}
 
 -- ---- the places of its cells
 
--- the words held
-abbrev pub HELD : ℕ
-HELD = 0
+-- where the silo's words start in its ring, and how many they are
+abbrev pub RING : ℕ
+RING = 0
 
 -- the words since the last CRC
 abbrev pub BLOCK : ℕ
@@ -50,7 +52,7 @@ CRC = 7
 abbrev pub SERIAL : ℕ
 SERIAL = 8
 
--- the first of the silo's 64 cells
+-- the first of the 64 cells of the silo's ring
 abbrev pub SILO : ℕ
 SILO = 9
 
@@ -70,10 +72,10 @@ EA16 = 4
 
 -- ---- out
 
--- a window: the values of an end, the cell of one side only, and the two cells of bits
-abbrev pub headOf : End → ℕ → ℕ → ℕ → List ℕ
-headOf end own control status =
-    end .silo .held
+-- the head: where the silo starts, the values of an end, the cell of one side only, and the two cells of bits
+abbrev pub headOf : ℕ → End → ℕ → ℕ → ℕ → List ℕ
+headOf start end own control status =
+    ringCell start (end .silo .held)
     ∷ end .block
     ∷ own
     ∷ lowOf (end .load .address .0) / 2
@@ -84,14 +86,17 @@ headOf end own control status =
     ∷ end .serial
     ∷ []
 
-abbrev pub windowOf : End → ℕ → ℕ → ℕ → List ℕ
-windowOf end own control status = headOf end own control status ++ end .silo .cells
+-- a window, in the place of one that stood there: the words lie in its ring
+abbrev pub windowOf : List ℕ → End → ℕ → ℕ → ℕ → List ℕ
+windowOf old end own control status =
+    let start = startFor 64 (cell old RING) (end .silo .held) in
+    headOf start end own control status ++ laidFrom start (words (end .silo)) (window old SILO 64)
 
 -- ---- in
 
--- "Data silos hold 64 words": a length above 64 reads as full
+-- "Data silos hold 64 words"
 abbrev pub siloIn : List ℕ → Silo
-siloIn w = record { cells = window w SILO 64; held = min 64 (cell w HELD) }
+siloIn w = siloOf 64 (cell w RING) (window w SILO 64)
 
 -- both halves are numbers of 15 bits: one of more reads by the remainder
 abbrev pub loadOf : ℕ → ℕ → ℕ → Load

@@ -1,6 +1,7 @@
 pub mod Ends
 pub mod Masters
 pub mod Receivers
+pub mod Rings
 pub mod Transmitters
 pub mod Window
 pub mod laws

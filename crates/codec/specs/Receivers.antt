@@ -24,8 +24,9 @@ controlCell r = controlOf r (extensionOf (r .end .load .address .0)) (r .end .lo
 abbrev pub statusCell : Receiver → ℕ
 statusCell r = statusOf r (r .channel .owed) (r .channel .good) (r .channel .badParity)
 
-abbrev pub encReceiver : Receiver → List ℕ
-encReceiver r = windowOf (r .end) (bit (r .channel .truncated)) (controlCell r) (statusCell r)
+-- in the place of a window that stood there
+abbrev pub encReceiver : List ℕ → Receiver → List ℕ
+encReceiver old r = windowOf old (r .end) (bit (r .channel .truncated)) (controlCell r) (statusCell r)
 
 -- ---- in
 

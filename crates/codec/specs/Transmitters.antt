@@ -25,8 +25,9 @@ controlCell t = controlOf t (extensionOf (t .end .load .address .0)) (t .end .lo
 abbrev pub statusCell : Transmitter → ℕ
 statusCell t = statusOf t (t .end .opened) (t .channel .ending) (t .channel .awaiting)
 
-abbrev pub encTransmitter : Transmitter → List ℕ
-encTransmitter t = windowOf (t .end) (t .channel .destination) (controlCell t) (statusCell t)
+-- in the place of a window that stood there
+abbrev pub encTransmitter : List ℕ → Transmitter → List ℕ
+encTransmitter old t = windowOf old (t .end) (t .channel .destination) (controlCell t) (statusCell t)
 
 -- ---- in
 

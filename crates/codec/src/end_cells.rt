@@ -1,6 +1,11 @@
 // What the windows of a transmitter and of a receiver have in common.
 use crate::readings::read_most;
 use crate::readings::read_word;
+use crate::rings::lay;
+use crate::rings::length_in;
+use crate::rings::start_for;
+use crate::rings::start_in;
+use crate::rings::unroll;
 use crate::windows::put;
 use crate::windows::take;
 use ends::End;
@@ -13,14 +18,18 @@ use words::count::ByteCount;
 use words::load::Load;
 ghost use mathlib.Core.List.{_++_};
 ghost use mathlib.Core.Path.{_≡_};
+ghost use Prim.Native.Nat.{_≤_, _<_};
 ghost use Rattle.codec.specs.Ends.{headOf, windowOf, siloIn, loadOf, codesOf, endIn};
+ghost use Rattle.codec.specs.Rings.{laidFrom};
+ghost use Rattle.codec.specs.Window.{window};
+ghost use Rattle.silos.specs.Silo.{words};
 
-// The cells of a transmitter, and those of a receiver: the head, and the silo's 64.
+// The cells of a transmitter, and those of a receiver: the head, and the 64 of the silo's ring.
 pub const SIDE: usize = 73;
 
-// The head's cells: the words held, the words since the last CRC, what only one side has (the destination latched at the opening, or
+// The head's cells: where the silo's words start in the ring and how many they are, the words since the last CRC, what only one side has (the destination latched at the opening, or
 // whether the message is truncated), the low half of the address / 2, the byte count / 2, two cells of bits, the CRC, and the serial.
-pub const HELD: usize = 0;
+pub const RING: usize = 0;
 
 const BLOCK: usize = 1;
 
@@ -47,7 +56,7 @@ pub const MARK: u16 = 3;
 
 const EA16: u16 = 4;
 
-// The cells before the silo's, and the silo's.
+// The cells before the ring's, and the ring's.
 fn join(head: [u16; SILO], cells: [u16; 64]) -> [u16; SIDE]
     ensures { λ r. ⌜ r ≡ head ++ cells ⌝ }
 {
@@ -57,9 +66,10 @@ fn join(head: [u16; SILO], cells: [u16; 64]) -> [u16; SIDE]
     w
 }
 
-// The cells before the silo's: the values of an end, the cell of one side only, and the two cells of bits.
-fn head(end: End, own: u16, control: u16, status: u16) -> [u16; SILO]
-    ensures { λ r. ⌜ r ≡ headOf end own control status ⌝ }
+// The cells before the ring's: where it starts, the values of an end, the cell of one side only, and the two cells of bits.
+fn head(start: u16, end: End, own: u16, control: u16, status: u16) -> [u16; SILO]
+    requires { ⌜ (start < 64) × (end .silo .held ≤ 64) ⌝ }
+    ensures { λ r. ⌜ r ≡ headOf start end own control status ⌝ }
 {
     let held = end.silo.held;
     let block = end.block;
@@ -69,7 +79,7 @@ fn head(end: End, own: u16, control: u16, status: u16) -> [u16; SILO]
     let crc = end.crc;
     let serial = end.serial;
     [
-        held,
+        start + held * 64,
         block,
         own,
         address.low() / 2,
@@ -81,23 +91,42 @@ fn head(end: End, own: u16, control: u16, status: u16) -> [u16; SILO]
     ]
 }
 
-pub fn window_of(end: End, own: u16, control: u16, status: u16) -> [u16; SIDE]
-    ensures { λ r. ⌜ r ≡ windowOf end own control status ⌝ }
+// The ring that stood there, with the words of a silo from a place on.
+fn ring_of(old: [u16; SIDE], silo: Silo, start: u16) -> [u16; 64]
+    requires { ⌜ (start < 64) × (silo .held ≤ 64) ⌝ }
+    ensures { λ r. ⌜ r ≡ laidFrom start (words silo) (window old 9 64) ⌝ }
 {
-    let cells = end.silo.cells;
-    join(head(end, own, control, status), cells)
+    let mut ring = [0u16; 64];
+    take(&mut ring, &old, SILO);
+    let words = silo.cells;
+    lay(&mut ring, &words, start as usize, silo.held as usize);
+    ring
 }
 
-// At most 64 words.
+// In the place of a window that stood there.
+pub fn window_of(old: [u16; SIDE], end: End, own: u16, control: u16, status: u16) -> [u16; SIDE]
+    requires { ⌜ end .silo .held ≤ 64 ⌝ }
+    ensures { λ r. ⌜ r ≡ windowOf old end own control status ⌝ }
+{
+    let silo = end.silo;
+    let start = start_for(64, old[RING], silo.held);
+    join(
+        head(start, end, own, control, status),
+        ring_of(old, silo, start),
+    )
+}
+
+// Its words in order.
 fn silo_in(w: [u16; SIDE]) -> Silo
     ensures { λ r. ⌜ r ≡ siloIn w ⌝ }
 {
+    let start = start_in(64, w[RING]);
+    let held = length_in(64, w[RING]);
+    let mut ring = [0u16; 64];
+    take(&mut ring, &w, SILO);
     let mut cells = [0u16; 64];
-    take(&mut cells, &w, SILO);
-    Silo {
-        cells,
-        held: read_most(w[HELD], 64),
-    }
+    unroll(&mut cells, &ring, start as usize, held as usize);
+    Silo { cells, held }
 }
 
 fn load_of(low: u16, count: u16, control: u16) -> Load

@@ -3,5 +3,6 @@ pub mod end_cells;
 pub mod masters;
 pub mod readings;
 pub mod receivers;
+pub mod rings;
 pub mod transmitters;
 pub mod windows;

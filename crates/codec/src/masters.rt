@@ -1,5 +1,10 @@
 // A master section as the cells of its window, and the section that a window holds.
-use crate::readings::read_most;
+use crate::rings::lay;
+use crate::rings::length_in;
+use crate::rings::start_for;
+use crate::rings::start_in;
+use crate::rings::start_next;
+use crate::rings::unroll;
 use crate::windows::put;
 use crate::windows::take;
 use master::side::Master;
@@ -10,13 +15,15 @@ ghost use mathlib.Core.Path.{_≡_};
 ghost use Prim.Native.Nat.{_+_, _<_, _≤_};
 ghost use lib.ListN.{length};
 ghost use Rattle.master.specs.Side.{Within};
-ghost use Rattle.codec.specs.Masters.{sectionWord, masterHead, encMaster, addressesIn, switchIn, counterIn, sectionOf, decMaster, masterAt};
-ghost use Rattle.codec.specs.Window.{splice};
+ghost use Rattle.codec.specs.Masters.{sectionWord, masterHead, masterFrom, encMaster, encNext, addressesIn, switchIn, counterIn, sectionOf, decMaster, masterAt};
+ghost use Rattle.codec.specs.Rings.{laidFrom};
+ghost use Rattle.codec.specs.Window.{window, splice};
+ghost use Rattle.silos.specs.Silo.{words};
 
-// The cells of a master section: the addresses held, the section's word, and the address silo's 64.
-pub const MASTER: usize = 66;
+// The cells of a master section: where the addresses start in the ring and how many they are, the section's word, and the ring's 50.
+pub const MASTER: usize = 52;
 
-pub const HELD: usize = 0;
+pub const RING: usize = 0;
 
 pub const SECTION: usize = 1;
 
@@ -52,40 +59,72 @@ fn section_sum(m: Master) -> u16
         + nowMaster as u16 * (1 << NOW_MST)
 }
 
-// The cells before the silo's.
-fn head(m: Master) -> [u16; ADDRESSES]
-    requires { ⌜ Within m ⌝ }
-    ensures { λ r. ⌜ r ≡ masterHead m ⌝ }
+// The cells before the ring's.
+fn head(start: u16, m: Master) -> [u16; ADDRESSES]
+    requires { ⌜ (start < 50) × Within m ⌝ }
+    ensures { λ r. ⌜ r ≡ masterHead start m ⌝ }
 {
     let addresses = m.addresses;
-    [addresses.held, section_sum(m)]
+    [start + addresses.held * 64, section_sum(m)]
 }
 
-pub fn encode(m: Master) -> [u16; MASTER]
-    requires { ⌜ Within m ⌝ }
-    ensures { λ r. ⌜ r ≡ encMaster m ⌝ }
+// The ring that stood there, with the addresses of a silo from a place on.
+fn ring_of(old: [u16; MASTER], silo: Silo, start: u16) -> [u16; 50]
+    requires { ⌜ (start < 50) × (silo .held ≤ 50) ⌝ }
+    ensures { λ r. ⌜ r ≡ laidFrom start (words silo) (window old 2 50) ⌝ }
 {
-    let head = head(m);
-    let addresses = m.addresses;
-    let cells = addresses.cells;
+    let mut ring = [0u16; 50];
+    take(&mut ring, &old, ADDRESSES);
+    let words = silo.cells;
+    lay(&mut ring, &words, start as usize, silo.held as usize);
+    ring
+}
+
+// In the place of a window that stood there, the addresses from a place on.
+fn encode_from(start: u16, old: [u16; MASTER], m: Master) -> [u16; MASTER]
+    requires { ⌜ (start < 50) × Within m ⌝ }
+    ensures { λ r. ⌜ r ≡ masterFrom start old m ⌝ }
+{
+    let head = head(start, m);
+    let ring = ring_of(old, m.addresses, start);
     let mut w = [0u16; MASTER];
     put(&mut w, 0, &head);
-    put(&mut w, ADDRESSES, &cells);
+    put(&mut w, ADDRESSES, &ring);
     w
+}
+
+fn encode(old: [u16; MASTER], m: Master) -> [u16; MASTER]
+    requires { ⌜ Within m ⌝ }
+    ensures { λ r. ⌜ r ≡ encMaster old m ⌝ }
+{
+    let addresses = m.addresses;
+    encode_from(start_for(50, old[RING], addresses.held), old, m)
+}
+
+// After a slice: in silo mode the oldest address was taken and came to the end.
+fn encode_next(old: [u16; MASTER], m: Master) -> [u16; MASTER]
+    requires { ⌜ Within m ⌝ }
+    ensures { λ r. ⌜ r ≡ encNext old m ⌝ }
+{
+    if m.autoAddress {
+        return encode(old, m);
+    }
+    encode_from(start_next(50, old[RING]), old, m)
 }
 
 // ---- in
 
-// At most 50 addresses.
+// The addresses in order.
 fn addresses_in(w: [u16; MASTER]) -> Silo
     ensures { λ r. ⌜ r ≡ addressesIn w ⌝ }
 {
+    let start = start_in(50, w[RING]);
+    let held = length_in(50, w[RING]);
+    let mut ring = [0u16; 50];
+    take(&mut ring, &w, ADDRESSES);
     let mut cells = [0u16; 64];
-    take(&mut cells, &w, ADDRESSES);
-    Silo {
-        cells,
-        held: read_most(w[HELD], 50),
-    }
+    unroll(&mut cells, &ring, start as usize, held as usize);
+    Silo { cells, held }
 }
 
 // At least 2.
@@ -132,7 +171,7 @@ pub fn decode(w: [u16; MASTER]) -> Master
 
 // The section that the cells hold at `at`.
 pub fn load_master(cells: &[u16], at: usize) -> Master
-    requires { ⌜ at + 66 ≤ length (now cells) ⌝ }
+    requires { ⌜ at + 52 ≤ length (now cells) ⌝ }
     ensures { λ r. ⌜ r ≡ masterAt (now (cells .entry)) at ⌝ }
 {
     let mut w = [0u16; MASTER];
@@ -142,9 +181,22 @@ pub fn load_master(cells: &[u16], at: usize) -> Master
 
 // The section into the cells at `at`.
 pub fn store_master(cells: &mut [u16], at: usize, m: Master)
-    requires { ⌜ (at + 66 ≤ length (now cells)) × Within m ⌝ }
-    ensures { λ _. ⌜ now (cells .exit) ≡ splice (now (cells .entry)) at (encMaster m) ⌝ }
+    requires { ⌜ (at + 52 ≤ length (now cells)) × Within m ⌝ }
+    ensures { λ _. ⌜ now (cells .exit) ≡ splice (now (cells .entry)) at (encMaster (window (now (cells .entry)) at 52) m) ⌝ }
 {
-    let w = encode(m);
+    let mut old = [0u16; MASTER];
+    take(&mut old, cells, at);
+    let w = encode(old, m);
+    put(cells, at, &w);
+}
+
+// The section into the cells at `at`, after a slice.
+pub fn store_next(cells: &mut [u16], at: usize, m: Master)
+    requires { ⌜ (at + 52 ≤ length (now cells)) × Within m ⌝ }
+    ensures { λ _. ⌜ now (cells .exit) ≡ splice (now (cells .entry)) at (encNext (window (now (cells .entry)) at 52) m) ⌝ }
+{
+    let mut old = [0u16; MASTER];
+    take(&mut old, cells, at);
+    let w = encode_next(old, m);
     put(cells, at, &w);
 }

@@ -23,7 +23,7 @@ ghost use Prim.Native.Nat.{_+_, _≤_};
 ghost use lib.ListN.{length};
 ghost use Rattle.receiver.specs.Side.{Within};
 ghost use Rattle.codec.specs.Receivers.{controlCell, statusCell, encReceiver, channelOf, decReceiver, receiverAt};
-ghost use Rattle.codec.specs.Window.{splice};
+ghost use Rattle.codec.specs.Window.{window, splice};
 
 // ---- out
 
@@ -44,12 +44,19 @@ fn status_cell(r: Receiver) -> u16
     status_bits(r, r.channel.owed, r.channel.good, r.channel.badParity)
 }
 
-pub fn encode(r: Receiver) -> [u16; SIDE]
+// In the place of a window that stood there.
+pub fn encode(old: [u16; SIDE], r: Receiver) -> [u16; SIDE]
     requires { ⌜ Within r ⌝ }
-    ensures { λ x. ⌜ x ≡ encReceiver r ⌝ }
+    ensures { λ x. ⌜ x ≡ encReceiver old r ⌝ }
 {
     let truncated = r.channel.truncated;
-    window_of(r.end, truncated as u16, control_cell(r), status_cell(r))
+    window_of(
+        old,
+        r.end,
+        truncated as u16,
+        control_cell(r),
+        status_cell(r),
+    )
 }
 
 // ---- in
@@ -97,8 +104,10 @@ pub fn load_receiver(cells: &[u16], at: usize) -> Receiver
 // The receiver into the cells at `at`.
 pub fn store_receiver(cells: &mut [u16], at: usize, r: Receiver)
     requires { ⌜ (at + 73 ≤ length (now cells)) × Within r ⌝ }
-    ensures { λ _. ⌜ now (cells .exit) ≡ splice (now (cells .entry)) at (encReceiver r) ⌝ }
+    ensures { λ _. ⌜ now (cells .exit) ≡ splice (now (cells .entry)) at (encReceiver (window (now (cells .entry)) at 73) r) ⌝ }
 {
-    let w = encode(r);
+    let mut old = [0u16; SIDE];
+    take(&mut old, cells, at);
+    let w = encode(old, r);
     put(cells, at, &w);
 }

@@ -23,7 +23,7 @@ ghost use Prim.Native.Nat.{_+_, _≤_};
 ghost use lib.ListN.{length};
 ghost use Rattle.transmitter.specs.Side.{Within};
 ghost use Rattle.codec.specs.Transmitters.{controlCell, statusCell, encTransmitter, channelOf, decTransmitter, transmitterAt};
-ghost use Rattle.codec.specs.Window.{splice};
+ghost use Rattle.codec.specs.Window.{window, splice};
 
 // ---- out
 
@@ -44,11 +44,13 @@ fn status_cell(t: Transmitter) -> u16
     status_bits(t, t.end.opened, t.channel.ending, t.channel.awaiting)
 }
 
-pub fn encode(t: Transmitter) -> [u16; SIDE]
+// In the place of a window that stood there.
+pub fn encode(old: [u16; SIDE], t: Transmitter) -> [u16; SIDE]
     requires { ⌜ Within t ⌝ }
-    ensures { λ r. ⌜ r ≡ encTransmitter t ⌝ }
+    ensures { λ r. ⌜ r ≡ encTransmitter old t ⌝ }
 {
     window_of(
+        old,
         t.end,
         t.channel.destination,
         control_cell(t),
@@ -102,8 +104,10 @@ pub fn load_transmitter(cells: &[u16], at: usize) -> Transmitter
 // The transmitter into the cells at `at`.
 pub fn store_transmitter(cells: &mut [u16], at: usize, t: Transmitter)
     requires { ⌜ (at + 73 ≤ length (now cells)) × Within t ⌝ }
-    ensures { λ _. ⌜ now (cells .exit) ≡ splice (now (cells .entry)) at (encTransmitter t) ⌝ }
+    ensures { λ _. ⌜ now (cells .exit) ≡ splice (now (cells .entry)) at (encTransmitter (window (now (cells .entry)) at 73) t) ⌝ }
 {
-    let w = encode(t);
+    let mut old = [0u16; SIDE];
+    take(&mut old, cells, at);
+    let w = encode(old, t);
     put(cells, at, &w);
 }

@@ -10,6 +10,7 @@ use cells::layout::HEADER;
 use cells::sides::put_master;
 use cells::sides::put_receiver;
 use cells::sides::put_transmitter;
+use cells::units::blank_unit;
 use cells::units::set_header;
 use cells::units::store_unit;
 use master::side::Master;
@@ -22,7 +23,7 @@ ghost use Rattle.cells.specs.Layout.{unitPlace};
 ghost use Rattle.fitting.specs.Fit.{fittedAs, unitsFitted, fit};
 ghost use Rattle.fitting.specs.SetUp.{countOf, setUpGood};
 
-// The switch of the master section comes with the unit's own numbers. Both serials are 0.
+// Whatever the block held is gone. The switch of the master section comes with the unit's own numbers. Both serials are 0.
 fn fit_unit(
     cells: &mut [u16],
     unit: usize,
@@ -35,6 +36,7 @@ fn fit_unit(
     requires { ⌜ (1 ≤ transmitter) × (1 ≤ receiver) × (2 ≤ switch) × (switch < 32) × (1 ≤ memory) × (memory ≤ 131072) ⌝ }
     ensures { λ _. ⌜ now (cells .exit) ≡ fittedAs (now (cells .entry)) unit transmitter receiver switch memory ⌝ }
 {
+    blank_unit(cells, unit);
     store_unit(cells, HEADER + unit * BLOCK, transmitter, receiver, memory);
     put_transmitter(cells, unit, transmitter::side::start(0));
     put_receiver(cells, unit, receiver::side::start(0));

@@ -17,7 +17,7 @@ use Rattle.pcl.specs.laws.Cases.{admitted-cases, move-cases}
 -- every cell of every other unit is as it was
 abbrev pub OthersStay : List ℕ → ℕ → List ℕ → Type 0
 OthersStay cells unit after =
-    (k : ℕ) → k < countIn cells → (k ≡ unit → ⊥) → (j : ℕ) → j < 216 → cell after (unitPlace k + j) ≡ cell cells (unitPlace k + j)
+    (k : ℕ) → k < countIn cells → (k ≡ unit → ⊥) → (j : ℕ) → j < 202 → cell after (unitPlace k + j) ≡ cell cells (unitPlace k + j)
 
 module _ (cells : List ℕ) (unit : ℕ) where
   abbrev Others : {A : Type 0} → A × List ℕ → Type 0

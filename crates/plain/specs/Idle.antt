@@ -3,17 +3,17 @@
 -- Assumes nothing.
 use mathlib.Core.Bool.{Bool, not, _&&_, _||_}
 use Prim.Native.Nat.{ℕ, _%_}
-use lib.Dec.{eqb}
+use lib.Dec.{eqb, leb}
 use Rattle.laws.specs.Bits.{bits, bitAt}
 use Rattle.laws.specs.Pick.{pick}
 use Rattle.words.specs.bits.TCR
 use Rattle.words.specs.bits.TSR
 
--- by the words held, the control cell and the status cell
+-- by the ring's cell, which says how many words are held, the control cell and the status cell
 abbrev pub actsBy : ℕ → ℕ → ℕ → Bool
-actsBy held control status =
+actsBy ring control status =
     bitAt status TSR.BUSY
-    || (bitAt control TCR.SND-WD && not (eqb held 0) && not (eqb (bits control TCR.DC-00 5) 0) && eqb (bits status TSR.OVERUN 6) 0)
+    || (bitAt control TCR.SND-WD && leb 64 ring && not (eqb (bits control TCR.DC-00 5) 0) && eqb (bits status TSR.OVERUN 6) 0)
 
 -- by the latched destination, the control cell and the status cell
 abbrev pub addressedBy : ℕ → ℕ → ℕ → ℕ

@@ -1,3 +1,4 @@
 pub mod Idle
+pub mod Places
 pub mod Turn
 pub mod laws

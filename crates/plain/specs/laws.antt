@@ -2,5 +2,5 @@ pub mod Faults
 pub mod Heads
 pub mod IdleLaws
 pub mod PartLaws
-pub mod Shifts
+pub mod PlaceLaws
 pub mod TurnLaws

@@ -3,8 +3,8 @@ use cells::layout::BLOCK;
 use cells::layout::HEADER;
 use cells::layout::TRANSMITTER;
 use codec::end_cells::CONTROL;
-use codec::end_cells::HELD;
 use codec::end_cells::OWN;
+use codec::end_cells::RING;
 use codec::end_cells::STATUS;
 use words::bits::bit_at;
 use words::bits::bits_at;
@@ -16,12 +16,12 @@ ghost use Rattle.sending.specs.Choice.{actsOn, chosen, destinationOf};
 ghost use Rattle.plain.specs.Idle.{actsBy, addressedBy};
 
 // An open one acts; a closed one with SND WD, a word, a nonzero destination and no error bit. The error bits are six from OVERUN on.
-fn acts_by(held: u16, control: u16, status: u16) -> bool
-    ensures { λ r. ⌜ r ≡ actsBy held control status ⌝ }
+fn acts_by(ring: u16, control: u16, status: u16) -> bool
+    ensures { λ r. ⌜ r ≡ actsBy ring control status ⌝ }
 {
     bit_at(status, tsr::BUSY)
         | (bit_at(control, tcr::SND_WD)
-            & (held != 0)
+            & (64 <= ring)
             & (bits_at(control, tcr::DC_00, 5) != 0)
             & (bits_at(status, tsr::OVERUN, 6) == 0))
 }
@@ -41,7 +41,7 @@ pub fn acts_at(cells: &[u16], unit: usize) -> bool
     ensures { λ r. ⌜ r ≡ actsOn (chosen (transmitterOf (now (cells .entry)) unit)) ⌝ }
 {
     let at = HEADER + unit * BLOCK + TRANSMITTER;
-    acts_by(cells[at + HELD], cells[at + CONTROL], cells[at + STATUS])
+    acts_by(cells[at + RING], cells[at + CONTROL], cells[at + STATUS])
 }
 
 pub fn destination_at(cells: &[u16], unit: usize) -> u16

@@ -3,16 +3,21 @@
 use mathlib.Core.Bool.{Bool, true, false, _&&_}
 use mathlib.Core.Path.{_≡_}
 use mathlib.Core.List.{List, [], _∷_, _++_}
-use Prim.Native.Nat.{ℕ, _+_, _-_, _*_, _^_, _≤_, _<_}
+use Prim.Native.Nat.{ℕ, _+_, _*_, _^_, _≤_, _<_}
+use lib.Dec.{ltb}
 use lib.ListN.{set}
 use Rattle.cells.specs.Fitted.{transmitterOf, receiverOf, putTransmitter, putReceiver}
 use Rattle.cells.specs.Layout.{memoryLength}
 use Rattle.codec.specs.Window.{cell, window}
 use Rattle.laws.specs.Bits.{bits, bitAt}
+use Rattle.plain.specs.Places.{behind, withOne, withoutOldest}
 use Rattle.receiver.specs.Moves as R
-use Rattle.silos.specs.Cells.{shifted}
 use Rattle.transmitter.specs.Moves as T
 use Rattle.words.specs.declared.answers.Move.{Move}
+
+-- whether a silo has room, by its ring's cell: its length is below 64
+abbrev pub roomBy : ℕ → Bool
+roomBy ring = ltb ring 4096
 
 -- a head of which a plain move changes three cells alone: its numbers stand within their limits, its own cell below one of its own; it is
 -- loaded, and INH ADI is clear; neither the address nor the count leaves its 15 bits with this word; and the period's mark stands only
@@ -30,10 +35,10 @@ pub record Plain (block own limit low count control : ℕ) (busy : Bool) : Type 
 abbrev pub wordAt : ℕ → ℕ → ℕ
 wordAt low control = bits control 4 2 * 2 ^ 15 + low
 
--- the head of a side with so many words, and with its load one word on
+-- the head of a side with this ring's cell, and with its load one word on
 abbrev pub headMoved : List ℕ → ℕ → ℕ → List ℕ
-headMoved cells at held =
-    held
+headMoved cells at ring =
+    ring
     ∷ cell cells (at + 1)
     ∷ cell cells (at + 2)
     ∷ (cell cells (at + 3) + 1)
@@ -46,10 +51,10 @@ headMoved cells at held =
 
 -- a window with its load one word on, and a word more in its silo, or its oldest word taken
 abbrev pub wordPut : List ℕ → ℕ → ℕ → List ℕ
-wordPut cells at word = headMoved cells at (cell cells at + 1) ++ set (window cells (at + 9) 64) (cell cells at) word
+wordPut cells at word = headMoved cells at (withOne (cell cells at)) ++ set (window cells (at + 9) 64) (behind (cell cells at)) word
 
 abbrev pub wordTaken : List ℕ → ℕ → List ℕ
-wordTaken cells at = headMoved cells at (cell cells at - 1) ++ shifted (window cells (at + 9) 64)
+wordTaken cells at = headMoved cells at (withoutOldest (cell cells at)) ++ window cells (at + 9) 64
 
 -- the answer and the cells after a transmitter's move
 abbrev pub transmitterLoaded : List ℕ → List ℕ → ℕ → Move × List ℕ

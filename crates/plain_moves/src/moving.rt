@@ -5,7 +5,9 @@ use cells::layout::RECEIVER;
 use cells::layout::TRANSMITTER;
 use cells::units::memory_length;
 use codec::windows::put;
-use plain::silo::shift;
+use plain::places::behind_of;
+use plain::places::front_of;
+use plain::places::without_oldest;
 ghost use mathlib.Core.Bool.{true};
 ghost use mathlib.Core.List.{List};
 ghost use mathlib.Core.Path.{_≡_};
@@ -15,24 +17,26 @@ ghost use Rattle.cells.specs.Fitted.{Fitted, transmitterOf, receiverOf};
 ghost use Rattle.cells.specs.Layout.{memoryLength};
 ghost use Rattle.codec.specs.Window.{cell, splice};
 ghost use Rattle.laws.specs.Pick.{pick};
+ghost use Rattle.plain.specs.Places.{front};
 ghost use Rattle.plain_moves.specs.Moving.{Plain, wordAt, headMoved, wordPut, wordTaken, transmitterLoaded, receiverStored};
 ghost use Rattle.receiver.specs.Moves as R;
 ghost use Rattle.transmitter.specs.Moves as T;
 ghost use Rattle.words.specs.declared.answers.Move.{Move};
 
-// TX NPR, loaded, no error bit, room, RD SILO clear, and not ending, which only an open transmitter is.
+// TX NPR, loaded, no error bit, room, RD SILO clear, and not ending, which only an open transmitter is. A length below 64 is a ring's cell
+// below 64 x 64.
 pub fn may_move_out(cells: &[u16], unit: usize) -> bool
     requires { ⌜ Fitted (now cells) unit ⌝ }
     ensures { λ r. ⌜ r ≡ T.mayMove (transmitterOf (now (cells .entry)) unit) ⌝ }
 {
     let at = HEADER + unit * BLOCK + TRANSMITTER;
-    let held = cells[at];
+    let ring = cells[at];
     let control = cells[at + 5];
     let status = cells[at + 6];
     (control / 16384 % 2 == 1)
         & (control / 2 % 2 == 1)
         & (status / 512 % 64 == 0)
-        & (held < 64)
+        & (ring < 4096)
         & !(control / 128 % 2 == 1)
         & !((status / 256 % 2 == 1) & (status / 64 % 2 == 1))
 }
@@ -43,10 +47,10 @@ pub fn may_move_in(cells: &[u16], unit: usize) -> bool
     ensures { λ r. ⌜ r ≡ R.mayMove (receiverOf (now (cells .entry)) unit) ⌝ }
 {
     let at = HEADER + unit * BLOCK + RECEIVER;
-    let held = cells[at];
+    let ring = cells[at];
     let control = cells[at + 5];
     let status = cells[at + 6];
-    (control / 16384 % 2 == 1) & !(held == 0) & (status / 512 % 64 == 0)
+    (control / 16384 % 2 == 1) & (64 <= ring) & (status / 512 % 64 == 0)
 }
 
 // What a plain move asks of both heads: the numbers stand within their limits, the load is loaded and goes on with INH ADI clear, and the
@@ -77,13 +81,13 @@ fn place(low: u16, control: u16) -> usize
     (control / 16 % 4) as usize * 32768 + low as usize
 }
 
-// The head of a side with so many words, and with its load one word on.
-fn put_head(cells: &mut [u16], at: usize, held: u16)
+// The head of a side with this ring's cell, and with its load one word on.
+fn put_head(cells: &mut [u16], at: usize, ring: u16)
     requires { ⌜ (at + 73 ≤ length (now cells)) × (cell (now cells) (at + 3) < 32767) × (cell (now cells) (at + 4) < 32767) ⌝ }
-    ensures { λ _. ⌜ now (cells .exit) ≡ splice (now (cells .entry)) at (headMoved (now (cells .entry)) at held) ⌝ }
+    ensures { λ _. ⌜ now (cells .exit) ≡ splice (now (cells .entry)) at (headMoved (now (cells .entry)) at ring) ⌝ }
 {
     let head = [
-        held,
+        ring,
         cells[at + 1],
         cells[at + 2],
         cells[at + 3] + 1,
@@ -96,26 +100,25 @@ fn put_head(cells: &mut [u16], at: usize, held: u16)
     put(cells, at, &head);
 }
 
-// A word into the silo.
+// A word into the silo: one cell of its ring.
 fn put_word(cells: &mut [u16], at: usize, word: u16)
-    requires { ⌜ (at + 73 ≤ length (now cells)) × (cell (now cells) (at + 3) < 32767) × (cell (now cells) (at + 4) < 32767) × (cell (now cells) at < 64) ⌝ }
+    requires { ⌜ (at + 73 ≤ length (now cells)) × (cell (now cells) (at + 3) < 32767) × (cell (now cells) (at + 4) < 32767) × (cell (now cells) at < 4096) ⌝ }
     ensures { λ _. ⌜ now (cells .exit) ≡ splice (now (cells .entry)) at (wordPut (now (cells .entry)) at word) ⌝ }
 {
-    let held = cells[at];
-    put_head(cells, at, held + 1);
-    let free = at + 9 + held as usize;
+    let ring = cells[at];
+    put_head(cells, at, ring + 64);
+    let free = at + 9 + behind_of(ring);
     cells[free] = word;
 }
 
-// The oldest word out of the silo.
+// The oldest word out of the silo, whose ring stays as it is.
 fn take_word(cells: &mut [u16], at: usize) -> u16
-    requires { ⌜ (at + 74 ≤ length (now cells)) × (cell (now cells) (at + 3) < 32767) × (cell (now cells) (at + 4) < 32767) × (1 ≤ cell (now cells) at) ⌝ }
-    ensures { λ r. ⌜ (now (cells .exit) ≡ splice (now (cells .entry)) at (wordTaken (now (cells .entry)) at)) × (r ≡ cell (now (cells .entry)) (at + 9)) ⌝ }
+    requires { ⌜ (at + 73 ≤ length (now cells)) × (cell (now cells) (at + 3) < 32767) × (cell (now cells) (at + 4) < 32767) × (64 ≤ cell (now cells) at) ⌝ }
+    ensures { λ r. ⌜ (now (cells .exit) ≡ splice (now (cells .entry)) at (wordTaken (now (cells .entry)) at)) × (r ≡ cell (now (cells .entry)) (at + 9 + front (cell (now (cells .entry)) at))) ⌝ }
 {
-    let held = cells[at];
-    let word = cells[at + 9];
-    put_head(cells, at, held - 1);
-    shift(cells, at + 9);
+    let ring = cells[at];
+    let word = cells[at + 9 + front_of(ring)];
+    put_head(cells, at, without_oldest(ring));
     word
 }
 
@@ -173,7 +176,8 @@ pub fn store_plain(cells: &mut [u16], memory: &mut [u16], unit: usize) -> bool
     ) {
         return false;
     }
-    if cells[at] > 64 {
+    // A length above 64 reads as 64.
+    if cells[at] >= 4160 {
         return false;
     }
     let to = place(low, control);

@@ -9,21 +9,27 @@ use lib.ListN.{length}
 use Rattle.answering.specs.Choice.{openWithAnother}
 use Rattle.codec.specs.Receivers.{encReceiver, receiverAt}
 use Rattle.codec.specs.Transmitters.{encTransmitter, transmitterAt}
-use Rattle.codec.specs.Window.{splice}
+use Rattle.codec.specs.Window.{window, splice}
 use Rattle.receiver.specs.declared.side.Receiver.{Receiver}
 use Rattle.slices.specs.Slice.{exchanged}
 use Rattle.slices.specs.declared.Pair.{Pair}
 use Rattle.transmitter.specs.declared.side.Transmitter.{Transmitter}
 
--- two windows of 73 cells, apart, each with a cell behind it
+-- two windows of 73 cells, apart
 pub record Placed (cells : List ℕ) (t r : ℕ) : Type 0 where
-  pub sender : t + 74 ≤ length cells
-  pub receiver : r + 74 ≤ length cells
+  pub sender : t + 73 ≤ length cells
+  pub receiver : r + 73 ≤ length cells
   pub apart : (t + 73 ≤ r) ⊎ (r + 73 ≤ t)
 
--- both sides put back
+-- both sides put back, one after the other, each in the place of the window that stands there
+abbrev pub senderPut : List ℕ → ℕ → Transmitter → List ℕ
+senderPut cells t sender = splice cells t (encTransmitter (window cells t 73) sender)
+
+abbrev pub receiverPut : List ℕ → ℕ → Receiver → List ℕ
+receiverPut cells r receiver = splice cells r (encReceiver (window cells r 73) receiver)
+
 abbrev pub putBoth : List ℕ → ℕ → ℕ → Transmitter → Receiver → List ℕ
-putBoth cells t r sender receiver = splice (splice cells t (encTransmitter sender)) r (encReceiver receiver)
+putBoth cells t r sender receiver = receiverPut (senderPut cells t sender) r receiver
 
 -- the undamaged slice between the sides at two places
 abbrev pub between : List ℕ → ℕ → ℕ → ℕ → Pair

@@ -9,14 +9,14 @@ use Rattle.codec.specs.Window.{cell}
 
 -- a transmitter open with ST TXM, not ending, with no error bit, which holds a word
 abbrev pub talksBy : ℕ → ℕ → ℕ → ℕ → ℕ → ℕ → Bool
-talksBy held own low count control status =
-    leb 1 held && leb held 64 && ltb own 32 && ltb low 32768 && ltb count 32768 && eqb (control % 2) 1 && eqb (status / 64 % 2) 1
+talksBy ring own low count control status =
+    leb 64 ring && ltb ring 4160 && ltb own 32 && ltb low 32768 && ltb count 32768 && eqb (control % 2) 1 && eqb (status / 64 % 2) 1
     && eqb (status / 256 % 128) 0
 
 -- a receiver open with the sender, with RCV DAT and without REJ, with no error bit and no bad parity
 abbrev pub listensBy : ℕ → ℕ → ℕ → ℕ → ℕ → ℕ → ℕ → Bool
-listensBy held own low count control status from =
-    leb held 64 && ltb own 2 && ltb low 32768 && ltb count 32768 && eqb (control % 2) 1 && ltb control 32768 && eqb (control / 256 % 32) from
+listensBy ring own low count control status from =
+    ltb ring 4160 && ltb own 2 && ltb low 32768 && ltb count 32768 && eqb (control % 2) 1 && ltb control 32768 && eqb (control / 256 % 32) from
     && eqb (status / 16 % 2) 1 && ltb status 512
 
 abbrev pub talksAt : List ℕ → ℕ → Bool

@@ -1,7 +1,7 @@
 // What each case of a plain slice writes at each end.
-use crate::windows::put_as_held;
+use crate::windows::put_head;
 use crate::windows::put_with_word;
-use crate::windows::put_without_oldest;
+use plain::places::without_oldest;
 ghost use mathlib.Core.Path.{_≡_};
 ghost use Prim.Native.Nat.{_+_, _≤_, _<_};
 ghost use lib.ListN.{length};
@@ -11,27 +11,27 @@ ghost use Rattle.plain_slices.specs.Heads.{wordSent, wordStored, dueSent
 // ---- a word
 
 pub fn send_word(cells: &mut [u16], t: usize, crc: u16)
-    requires { ⌜ (t + 74 ≤ length (now cells)) × (1 ≤ cell (now cells) t) ⌝ }
+    requires { ⌜ (t + 73 ≤ length (now cells)) × (64 ≤ cell (now cells) t) ⌝ }
     requires { ⌜ (cell (now cells) (t + 1) < 128) × (cell (now cells) (t + 6) < 32768) ⌝ }
     ensures { λ _. ⌜ now (cells .exit) ≡ wordSent (now (cells .entry)) t crc ⌝ }
 {
-    let held = cells[t] - 1;
+    let ring = without_oldest(cells[t]);
     let block = cells[t + 1] + 1;
     let control = cells[t + 5] - cells[t + 5] / 8 % 2 * 8;
     let status = cells[t + 6] / 16 * 16 + 14;
-    put_without_oldest(cells, t, held, block, control, status, crc);
+    put_head(cells, t, ring, block, control, status, crc);
 }
 
 pub fn store_word(cells: &mut [u16], r: usize, word: u16, crc: u16)
-    requires { ⌜ (r + 73 ≤ length (now cells)) × (cell (now cells) r < 64) ⌝ }
+    requires { ⌜ (r + 73 ≤ length (now cells)) × (cell (now cells) r < 4096) ⌝ }
     requires { ⌜ (cell (now cells) (r + 1) < 128) × (cell (now cells) (r + 6) < 512) ⌝ }
     ensures { λ _. ⌜ now (cells .exit) ≡ wordStored (now (cells .entry)) r word crc ⌝ }
 {
-    let held = cells[r];
+    let ring = cells[r];
     let block = cells[r + 1] + 1;
     let control = cells[r + 5] - cells[r + 5] / 8 % 2 * 8;
     let status = cells[r + 6] / 16 * 16 + 14;
-    put_with_word(cells, r, held, block, control, status, crc, word);
+    put_with_word(cells, r, ring, block, control, status, crc, word);
 }
 
 // ---- a due CRC
@@ -40,24 +40,24 @@ pub fn send_due(cells: &mut [u16], t: usize)
     requires { ⌜ (t + 73 ≤ length (now cells)) × (cell (now cells) (t + 6) < 32768) ⌝ }
     ensures { λ _. ⌜ now (cells .exit) ≡ dueSent (now (cells .entry)) t ⌝ }
 {
-    let held = cells[t];
+    let ring = cells[t];
     let block = cells[t + 1];
     let control = cells[t + 5];
     let status = cells[t + 6] / 16 * 16 + 6 + 32768;
     let crc = cells[t + 7];
-    put_as_held(cells, t, held, block, control, status, crc);
+    put_head(cells, t, ring, block, control, status, crc);
 }
 
 pub fn take_due(cells: &mut [u16], r: usize)
     requires { ⌜ (r + 73 ≤ length (now cells)) × (cell (now cells) (r + 6) < 512) ⌝ }
     ensures { λ _. ⌜ now (cells .exit) ≡ dueTaken (now (cells .entry)) r ⌝ }
 {
-    let held = cells[r];
+    let ring = cells[r];
     let block = cells[r + 1];
     let control = cells[r + 5];
     let status = cells[r + 6] / 16 * 16 + 6 + 64 + 256;
     let crc = cells[r + 7];
-    put_as_held(cells, r, held, block, control, status, crc);
+    put_head(cells, r, ring, block, control, status, crc);
 }
 
 // ---- its good verdict
@@ -66,18 +66,18 @@ pub fn restart_sender(cells: &mut [u16], t: usize)
     requires { ⌜ t + 73 ≤ length (now cells) ⌝ }
     ensures { λ _. ⌜ now (cells .exit) ≡ senderRestarted (now (cells .entry)) t ⌝ }
 {
-    let held = cells[t];
+    let ring = cells[t];
     let control = cells[t + 5];
     let status = cells[t + 6] % 32768 / 16 * 16 + 14;
-    put_as_held(cells, t, held, 0, control, status, 0);
+    put_head(cells, t, ring, 0, control, status, 0);
 }
 
 pub fn restart_receiver(cells: &mut [u16], r: usize)
     requires { ⌜ (r + 73 ≤ length (now cells)) × (320 ≤ cell (now cells) (r + 6)) × (cell (now cells) (r + 6) < 512) ⌝ }
     ensures { λ _. ⌜ now (cells .exit) ≡ receiverRestarted (now (cells .entry)) r ⌝ }
 {
-    let held = cells[r];
+    let ring = cells[r];
     let control = cells[r + 5];
     let status = cells[r + 6] / 16 * 16 + 14 - 320;
-    put_as_held(cells, r, held, 0, control, status, 0);
+    put_head(cells, r, ring, 0, control, status, 0);
 }

@@ -3,16 +3,15 @@
 ghost use mathlib.Core.Path.{_≡_};
 ghost use Prim.Native.Nat.{_+_, _≤_, _<_};
 ghost use lib.ListN.{length};
-ghost use Rattle.codec.specs.Window.{cell};
 ghost use Rattle.plain_slices.specs.Tests.{talksBy, talksAt, listensBy, listensAt, agreeBy, agreeAt, inStepAt, Sixteen};
 
-// Words held, the latched destination, the two halves of the load; ST TXM; BUSY, which here is that the channel is open; and neither
-// DTIRDY, which is ending, nor an error bit.
-fn talks(held: u16, own: u16, low: u16, count: u16, control: u16, status: u16) -> bool
-    ensures { λ x. ⌜ x ≡ talksBy held own low count control status ⌝ }
+// A word held and at most 64, by the ring's cell of start + 64 x length; the latched destination, the two halves of the load; ST TXM; BUSY,
+// which here is that the channel is open; and neither DTIRDY, which is ending, nor an error bit.
+fn talks(ring: u16, own: u16, low: u16, count: u16, control: u16, status: u16) -> bool
+    ensures { λ x. ⌜ x ≡ talksBy ring own low count control status ⌝ }
 {
-    (1 <= held)
-        & (held <= 64)
+    (64 <= ring)
+        & (ring < 4160)
         & (own < 32)
         & (low < 32768)
         & (count < 32768)
@@ -21,12 +20,12 @@ fn talks(held: u16, own: u16, low: u16, count: u16, control: u16, status: u16) -
         & (status / 256 % 128 == 0)
 }
 
-// Words held, whether truncated, the two halves of the load; RCV DAT, no REJ, the sender in IB 00 to IB 04; CHN OPN; and neither an error
-// bit nor ERR, which here is that the word before had bad parity.
-fn listens(held: u16, own: u16, low: u16, count: u16, control: u16, status: u16, from: u16) -> bool
-    ensures { λ x. ⌜ x ≡ listensBy held own low count control status from ⌝ }
+// At most 64 words held, whether truncated, the two halves of the load; RCV DAT, no REJ, the sender in IB 00 to IB 04; CHN OPN; and neither
+// an error bit nor ERR, which here is that the word before had bad parity.
+fn listens(ring: u16, own: u16, low: u16, count: u16, control: u16, status: u16, from: u16) -> bool
+    ensures { λ x. ⌜ x ≡ listensBy ring own low count control status from ⌝ }
 {
-    (held <= 64)
+    (ring < 4160)
         & (own < 2)
         & (low < 32768)
         & (count < 32768)

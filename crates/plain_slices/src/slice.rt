@@ -7,6 +7,7 @@ use crate::halves::send_word;
 use crate::halves::store_word;
 use crate::halves::take_due;
 use crate::in_step::in_step;
+use plain::places::front_of;
 use words::crc::crc_with_word;
 ghost use mathlib.Core.Bool.{true};
 ghost use mathlib.Core.Path.{_≡_};
@@ -19,10 +20,10 @@ ghost use Rattle.plain_slices.specs.Tests.{inStepAt, Sixteen};
 // A word, accepted and stored.
 fn carry_word(cells: &mut [u16], t: usize, r: usize)
     requires { ⌜ Placed (now cells) t r ⌝ }
-    requires { ⌜ ((1 ≤ cell (now cells) t) × (cell (now cells) (t + 1) < 128) × (cell (now cells) (t + 6) < 32768)) × ((cell (now cells) r < 64) × (cell (now cells) (r + 1) < 128) × (cell (now cells) (r + 6) < 512)) ⌝ }
+    requires { ⌜ ((64 ≤ cell (now cells) t) × (cell (now cells) (t + 1) < 128) × (cell (now cells) (t + 6) < 32768)) × ((cell (now cells) r < 4096) × (cell (now cells) (r + 1) < 128) × (cell (now cells) (r + 6) < 512)) ⌝ }
     ensures { λ _. ⌜ now (cells .exit) ≡ wordCarried (now (cells .entry)) t r ⌝ }
 {
-    let word = cells[t + 9];
+    let word = cells[t + 9 + front_of(cells[t])];
     let crc = crc_with_word(cells[t + 7], word);
     send_word(cells, t, crc);
     store_word(cells, r, word, crc);
@@ -48,7 +49,7 @@ fn carry_verdict(cells: &mut [u16], t: usize, r: usize)
     restart_receiver(cells, r);
 }
 
-// Fewer than 128 words since the last CRC: a word, if there is room for it.
+// Fewer than 128 words since the last CRC: a word, if there is room for it. With 64 words held the ring's cell is 64 x 64 or more.
 fn try_word(cells: &mut [u16], t: usize, r: usize, from: u16) -> u16
     requires { ⌜ Placed (now cells) t r ⌝ }
     requires { ⌜ (inStepAt (now cells) t r from ≡ true) × Sixteen (now cells) × (cell (now cells) (t + 1) < 128) ⌝ }
@@ -57,7 +58,7 @@ fn try_word(cells: &mut [u16], t: usize, r: usize, from: u16) -> u16
     if cells[t + 6] >= 32768 {
         return 0;
     }
-    if cells[r] >= 64 {
+    if cells[r] >= 4096 {
         return 0;
     }
     carry_word(cells, t, r);

@@ -1,29 +1,28 @@
-// A side's window written back: the cells of its head that a slice may change, and what becomes of its silo.
+// A side's window written back: the cells of its head that a slice may change, and at most one cell of its silo's ring.
 use codec::windows::put;
-use plain::silo::shift;
-ghost use mathlib.Core.List.{List, []};
+use plain::places::behind_of;
 ghost use mathlib.Core.Path.{_≡_};
-ghost use Prim.Native.Nat.{ℕ, _+_, _≤_, _<_};
+ghost use Prim.Native.Nat.{_+_, _≤_, _<_};
 ghost use lib.ListN.{length, set};
-ghost use Rattle.codec.specs.Window.{splice};
-ghost use Rattle.silos.specs.Cells.{shifted};
-ghost use Rattle.plain_slices.specs.Heads.{headed, written};
+ghost use Rattle.codec.specs.Window.{window};
+ghost use Rattle.plain.specs.Places.{behind, withOne};
+ghost use Rattle.plain_slices.specs.Heads.{written};
 
-// A head with what a slice changes of it.
-fn put_head(
+// The ring as it was: a word that is taken leaves its cell.
+pub fn put_head(
     cells: &mut [u16],
     at: usize,
-    held: u16,
+    ring: u16,
     block: u16,
     control: u16,
     status: u16,
     crc: u16,
 )
     requires { ⌜ at + 73 ≤ length (now cells) ⌝ }
-    ensures { λ _. ⌜ now (cells .exit) ≡ splice (now (cells .entry)) at (headed (now (cells .entry)) at held block control status crc []) ⌝ }
+    ensures { λ _. ⌜ now (cells .exit) ≡ written (now (cells .entry)) at ring block control status crc (window (now (cells .entry)) (at + 9) 64) ⌝ }
 {
     let head = [
-        held,
+        ring,
         block,
         cells[at + 2],
         cells[at + 3],
@@ -36,54 +35,21 @@ fn put_head(
     put(cells, at, &head);
 }
 
-// The oldest word is gone.
-pub fn put_without_oldest(
-    cells: &mut [u16],
-    at: usize,
-    held: u16,
-    block: u16,
-    control: u16,
-    status: u16,
-    crc: u16,
-)
-    requires { ⌜ at + 74 ≤ length (now cells) ⌝ }
-    ensures { λ _. ⌜ now (cells .exit) ≡ written (now (cells .entry)) at held block control status crc shifted ⌝ }
-{
-    put_head(cells, at, held, block, control, status, crc);
-    shift(cells, at + 9);
-}
-
 // A word more, behind those held before.
 pub fn put_with_word(
     cells: &mut [u16],
     at: usize,
-    held: u16,
+    ring: u16,
     block: u16,
     control: u16,
     status: u16,
     crc: u16,
     word: u16,
 )
-    requires { ⌜ (at + 73 ≤ length (now cells)) × (held < 64) ⌝ }
-    ensures { λ _. ⌜ now (cells .exit) ≡ written (now (cells .entry)) at (held + 1) block control status crc (λ (l : List ℕ). set l held word) ⌝ }
+    requires { ⌜ (at + 73 ≤ length (now cells)) × (ring < 4096) ⌝ }
+    ensures { λ _. ⌜ now (cells .exit) ≡ written (now (cells .entry)) at (withOne ring) block control status crc (set (window (now (cells .entry)) (at + 9) 64) (behind ring) word) ⌝ }
 {
-    put_head(cells, at, held + 1, block, control, status, crc);
-    let back = at + 9 + held as usize;
-    cells[back] = word;
-}
-
-// The silo as it was.
-pub fn put_as_held(
-    cells: &mut [u16],
-    at: usize,
-    held: u16,
-    block: u16,
-    control: u16,
-    status: u16,
-    crc: u16,
-)
-    requires { ⌜ at + 73 ≤ length (now cells) ⌝ }
-    ensures { λ _. ⌜ now (cells .exit) ≡ written (now (cells .entry)) at held block control status crc (λ (l : List ℕ). l) ⌝ }
-{
-    put_head(cells, at, held, block, control, status, crc);
+    put_head(cells, at, ring + 64, block, control, status, crc);
+    let free = at + 9 + behind_of(ring);
+    cells[free] = word;
 }

@@ -2,7 +2,7 @@
 -- memory.
 -- Assumes nothing.
 use mathlib.Core.List.{List, [], _∷_}
-use Prim.Native.Nat.{ℕ}
+use Prim.Native.Nat.{ℕ, _^_, _<_}
 use lib.Dec.{eqb}
 use lib.ListN.{set}
 use Rattle.laws.specs.Pick.{pick}
@@ -35,6 +35,24 @@ pub data Event : Type 0 where
   serial : ℕ → ℕ → Event
   -- unit, place in its memory, word
   hostWrite : ℕ → ℕ → ℕ → Event
+
+-- what a call can be handed: a word has 16 bits, a byte 8
+abbrev pub Handed : Event → Type 0
+Handed (fit setup) = Unit {0}
+Handed (write unit offset word) = word < 2 ^ 16
+Handed (writeByte unit offset byte) = byte < 2 ^ 8
+Handed (read unit offset) = Unit {0}
+Handed (slice mask parity) = Unit {0}
+Handed (move unit side) = Unit {0}
+Handed (period unit) = Unit {0}
+Handed (reset unit) = Unit {0}
+Handed (level unit side) = Unit {0}
+Handed (serial unit side) = Unit {0}
+Handed (hostWrite unit place word) = Unit {0}
+
+abbrev pub AllHanded : List Event → Type 0
+AllHanded [] = Unit {0}
+AllHanded (e ∷ es) = Handed e × AllHanded es
 
 -- ---- what an event leaves
 

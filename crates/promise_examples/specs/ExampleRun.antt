@@ -7,6 +7,7 @@ use Prim.Native.Nat.{ℕ, _+_, _^_}
 use native.Mathlib.Omega.{arith}
 use lib.Count.{ones}
 use lib.Dec.{lit≤}
+use Rattle.codec.specs.Rings.{inOrder, laidFrom}
 use Rattle.cells.specs.Ranges.{inRange}
 use Rattle.cells.specs.Search.{firstOf}
 use Rattle.pcl.specs.Calls.{readCall}
@@ -42,7 +43,7 @@ not-own : other ≡ own → ⊥
 not-own e = let one : _≡_ {A = ℕ} 0 1 = ap (λ (k : Kind). owns (k ∷ [])) e in omega arith
 
 meets : Meets start events
-unfolding firstOf inRange ones crcWord crcBits
+unfolding firstOf inRange ones crcWord crcBits inOrder laidFrom
 meets =
     let mine : (w : World) → numberOf (move 0 0) w ≡ 4 → numberOf (move 0 1) w ≡ 4 → OwnSlice (parties start) 0 0 w =
     λ w t r. record { dataUndamaged = refl; parityUndamaged = refl; senderMoved = t; receiverMoved = r } in (
@@ -70,11 +71,11 @@ meets =
 
 -- they are three slices of T's, so the words are delivered
 arrives : Succeeded start (after start events)
-unfolding firstOf inRange ones crcWord crcBits
+unfolding firstOf inRange ones crcWord crcBits inOrder laidFrom
 arrives = demand-3 start opening events meets .fromThen (lit≤ tt)
 
 stored : after start events .memory 0 ≡ 0 ∷ 7 ∷ 9 ∷ 7 ∷ 9 ∷ 0 ∷ []
-unfolding firstOf inRange ones crcWord crcBits
+unfolding firstOf inRange ones crcWord crcBits inOrder laidFrom
 stored = refl
 
 -- TSR has SUC TXF and DTIRDY, RSR has SUC TXF, and both levels stand
@@ -85,5 +86,5 @@ abbrev levelRead : ℕ → ℕ
 levelRead side = levelValue (levelCall (after start events .cells) 0 side)
 
 seen : (wordRead 2 ≡ 2 ^ 7 + 2 ^ 8) × (wordRead 18 ≡ 2 ^ 7) × (levelRead 0 ≡ 1) × (levelRead 1 ≡ 1)
-unfolding firstOf inRange ones crcWord crcBits
+unfolding firstOf inRange ones crcWord crcBits inOrder laidFrom
 seen = (refl, refl, refl, refl)

@@ -9,6 +9,8 @@ use native.Mathlib.Omega.{arith}
 use lib.Count.{ones}
 use lib.Dec.{eqb, lit≤}
 use lib.ListN.{replicate}
+use Rattle.cells.specs.Fitted.{unitFitted}
+use Rattle.codec.specs.Rings.{inOrder, laidFrom}
 use Rattle.cells.specs.Layout.{receiverAddress, transmitterAddress, unitPlace}
 use Rattle.cells.specs.Ranges.{inRange}
 use Rattle.cells.specs.Search.{firstOf}
@@ -32,7 +34,7 @@ abbrev memories : ℕ → List ℕ
 memories k = pick (eqb k 1) (counting 300 1) (replicate 300 0)
 
 abbrev blank : World
-blank = record { cells = replicate 650 0; memory = memories }
+blank = record { cells = replicate 608 0; memory = memories }
 
 -- three units; unit 2 is master. Unit 1 sends 130 words, from word 0 on, to unit 2's receiver, which stores them from word 150 on; one of
 -- them is moved, and a slice is for address 2.
@@ -53,39 +55,39 @@ setting =
 -- Then every cell of unit 0 is overwritten: its silos are full, its transmitter and its receiver are open, and every bit stands. Each search
 -- for a unit comes to it first. With 0 or 1 in these cells it would have T's address or R's, and there would be no opening.
 abbrev damaged : World → World
-damaged w = withCells w (splice (w .cells) (unitPlace 0) (replicate 216 65535))
+damaged w = withCells w (splice (w .cells) (unitPlace 0) (replicate 202 65535))
 
 abbrev start : World
 start =
     record {
       cells =
           (3 ∷ 3 ∷ [])
-          ++ replicate 216 65535
+          ++ replicate 202 65535
           ++ (0 ∷ 0 ∷ 0 ∷ 299 ∷ [])
-          ++ (1 ∷ 0 ∷ 0 ∷ 1 ∷ 32639 ∷ 25091 ∷ 0 ∷ 0 ∷ 0 ∷ 1 ∷ [])
+          ++ (64 ∷ 0 ∷ 0 ∷ 1 ∷ 32639 ∷ 25091 ∷ 0 ∷ 0 ∷ 0 ∷ 1 ∷ [])
           ++ replicate 63 0
           ++ replicate 73 0
           ++ (0 ∷ 1090 ∷ [])
-          ++ replicate 64 0
+          ++ replicate 50 0
           ++ (1 ∷ 1 ∷ 0 ∷ 299 ∷ [])
           ++ replicate 73 0
           ++ (0 ∷ 0 ∷ 0 ∷ 150 ∷ 32638 ∷ 24579 ∷ 0 ∷ 0 ∷ 0 ∷ [])
           ++ replicate 64 0
           ++ (0 ∷ 1089 ∷ [])
-          ++ replicate 64 0;
+          ++ replicate 50 0;
       memory = memories;
     }
 
 set-up : damaged (run setting blank) .cells ≡ start .cells
-unfolding unitsFitted takenBy unitsGood firstOf inRange
+unfolding unitFitted unitsFitted takenBy unitsGood firstOf inRange inOrder laidFrom
 set-up = refl
 
 set-up-memory : (run setting blank .memory 1 ≡ memories 1) × (run setting blank .memory 2 ≡ memories 2)
-unfolding unitsFitted takenBy unitsGood firstOf inRange
+unfolding unitFitted unitsFitted takenBy unitsGood firstOf inRange inOrder laidFrom
 set-up-memory = (refl, refl)
 
 opening : Opening start
-unfolding firstOf inRange ones
+unfolding firstOf inRange ones inOrder laidFrom
 opening =
     record {
       answered = refl;
@@ -123,16 +125,16 @@ opening =
     }
 
 long : wordsSent start ≡ 130
-unfolding firstOf inRange ones
+unfolding firstOf inRange ones inOrder laidFrom
 long = refl
 
 -- it is unit 1's message to unit 2; unit 0 has address 31 on both sides, which the cycle does not give
 parties-are : parties start ≡ record { sender = 1; receiver = 2; master = 2 }
-unfolding firstOf inRange ones
+unfolding firstOf inRange ones inOrder laidFrom
 parties-are = refl
 
 out-of-the-way : (transmitterAddress (start .cells) 0 ≡ 31) × (receiverAddress (start .cells) 0 ≡ 31) × (round start ≡ 2)
-unfolding firstOf inRange ones
+unfolding firstOf inRange ones inOrder laidFrom
 out-of-the-way = (refl, refl, refl)
 
 -- ---- what is delivered, by the theorem
@@ -145,7 +147,7 @@ abbrev received : List ℕ
 received = replicate 150 0 ++ counting 130 1 ++ replicate 20 0
 
 stored : after start (delivered .0) .memory 2 ≡ received
-unfolding firstOf inRange ones
+unfolding firstOf inRange ones inOrder laidFrom
 stored = delivered .2 .0 .memory ∙ refl
 
 -- ---- and by a run that the prover computes
@@ -160,9 +162,9 @@ events = times 63 (move 1 0 ∷ []) ++ times 133 (move 1 0 ∷ move 2 1 ∷ slic
 
 -- R's memory, and unit 0's cells
 abbrev leftIn : World → List ℕ × List ℕ
-leftIn w = (w .memory 2, window (w .cells) (unitPlace 0) 216)
+leftIn w = (w .memory 2, window (w .cells) (unitPlace 0) 202)
 
 -- the words are there, and no cell of unit 0 has changed
-left : leftIn (after start events) ≡ (received, replicate 216 65535)
-unfolding firstOf inRange ones crcWord crcBits
+left : leftIn (after start events) ≡ (received, replicate 202 65535)
+unfolding firstOf inRange ones crcWord crcBits inOrder laidFrom
 left = refl

@@ -24,7 +24,7 @@ SameOwn cells after = (k j : ℕ) → j < 4 → ownCell after j k ≡ ownCell ce
 
 -- ---- a part at o of the block of a fitted unit u replaced
 
-module _ (cells : List ℕ) (u : ℕ) (f : Fitted cells u) (o : ℕ) (w : List ℕ) (part : o + length w ≤ 216) where
+module _ (cells : List ℕ) (u : ℕ) (f : Fitted cells u) (o : ℕ) (w : List ℕ) (part : o + length w ≤ 202) where
   fits : unitPlace u + o + length w ≤ length cells
   fits = omega arith
 
@@ -42,20 +42,20 @@ module _ (cells : List ℕ) (u : ℕ) (f : Fitted cells u) (o : ℕ) (w : List �
   in-range-kept = in-range-agrees cells (splice cells (unitPlace u + o) w) length-kept count-kept holder-kept
 
   -- n cells at p of a unit k are apart from the part replaced: those of another unit are, and those of u where they lie before or past it
-  apart : (k p n : ℕ) → p + n ≤ 216 → (k ≡ u → (p + n ≤ o) ⊎ (o + length w ≤ p))
+  apart : (k p n : ℕ) → p + n ≤ 202 → (k ≡ u → (p + n ≤ o) ⊎ (o + length w ≤ p))
       → (unitPlace k + p + n ≤ unitPlace u + o) ⊎ (unitPlace u + o + length w ≤ unitPlace k + p)
   apart k p n h disjoint =
       by (eqb k u) (λ same. let e = eqb-true k u same in ⊎-elim (λ l. inl (omega arith)) (λ r. inr (omega arith)) (disjoint e))
       (λ other. let d = eqb-false k u other in by (ltb k u) (λ less. inl (omega (arith, ltb-true k u less))) (λ more. inr (omega (arith, ltb-false k u more))))
 
   -- such a cell is kept
-  pub cell-kept : (k j : ℕ) → j < 216 → (k ≡ u → (j < o) ⊎ (o + length w ≤ j)) → cell (splice cells (unitPlace u + o) w) (unitPlace k + j) ≡ cell cells (unitPlace k + j)
+  pub cell-kept : (k j : ℕ) → j < 202 → (k ≡ u → (j < o) ⊎ (o + length w ≤ j)) → cell (splice cells (unitPlace u + o) w) (unitPlace k + j) ≡ cell cells (unitPlace k + j)
   cell-kept k j h disjoint =
       ⊎-elim (λ l. cell-before cells (unitPlace u + o) w fits (unitPlace k + j) (omega arith)) (λ r. cell-past cells (unitPlace u + o) w fits (unitPlace k + j) r)
       (apart k j 1 (omega arith) (λ e. ⊎-elim (λ l. inl (omega arith)) inr (disjoint e)))
 
   -- such a window of a fitted unit is kept
-  pub window-kept : (k p n : ℕ) → Fitted cells k → p + n ≤ 216 → (k ≡ u → (p + n ≤ o) ⊎ (o + length w ≤ p))
+  pub window-kept : (k p n : ℕ) → Fitted cells k → p + n ≤ 202 → (k ≡ u → (p + n ≤ o) ⊎ (o + length w ≤ p))
       → window (splice cells (unitPlace u + o) w) (unitPlace k + p) n ≡ window cells (unitPlace k + p) n
   window-kept k p n there h disjoint =
       ⊎-elim (λ l. window-before cells (unitPlace u + o) w (unitPlace k + p) n l (omega arith))

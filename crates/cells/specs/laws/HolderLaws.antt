@@ -57,7 +57,7 @@ module _ (cells : List ℕ) (header : 2 ≤ length cells) (holder : ℕ) where
       (record { header = rw l (r .header); most = rw c (r .most); room = rw (c, l) (r .room); holder = rw (c, holder-put) most })
 
   module _ (k : ℕ) (there : Fitted cells k) where
-    window-after-holder : (p n : ℕ) → p ≤ 216 → window (splice cells 1 (holder ∷ [])) (unitPlace k + p) n ≡ window cells (unitPlace k + p) n
+    window-after-holder : (p n : ℕ) → p ≤ 202 → window (splice cells 1 (holder ∷ [])) (unitPlace k + p) n ≡ window cells (unitPlace k + p) n
     window-after-holder p n h = window-after cells 1 (holder ∷ []) (unitPlace k + p) (omega arith) (omega arith) n
 
     pub transmitter-after-holder : transmitterOf (splice cells 1 (holder ∷ [])) k ≡ transmitterOf cells k
@@ -67,4 +67,4 @@ module _ (cells : List ℕ) (header : 2 ≤ length cells) (holder : ℕ) where
     receiver-after-holder = ap decReceiver (window-after-holder 77 73 (lit≤ tt))
 
     pub master-after-holder : masterOf (splice cells 1 (holder ∷ [])) k ≡ masterOf cells k
-    master-after-holder = ap decMaster (window-after-holder 150 66 (lit≤ tt))
+    master-after-holder = ap decMaster (window-after-holder 150 52 (lit≤ tt))

@@ -79,7 +79,7 @@ found-fitted cells ok numberOf a h = counted-fitted cells ok _ (omega (arith, fi
 -- ---- SEC, as a unit's master section has it
 
 pub secondary-is : (cells : List ℕ) (u : ℕ) → masterOf cells u .secondary ≡ on (secondaryIn cells u)
-secondary-is cells u = ap (λ (word : ℕ). bitAt word SEC) (cell-window cells (masterPlace u) 66 SECTION (lit< tt))
+secondary-is cells u = ap (λ (word : ℕ). bitAt word SEC) (cell-window cells (masterPlace u) 52 SECTION (lit< tt))
 
 -- so the unit found has it
 pub secondary-found : (cells : List ℕ) (count : ℕ) → firstSecondary cells count < 16 → masterOf cells (firstSecondary cells count) .secondary ≡ true

@@ -15,8 +15,8 @@ use Rattle.pcl.specs.Numbers.{fitNumber}
 use Rattle.pcl.specs.declared.answers.FitCall.{FitCall}
 use Rattle.pcl.specs.laws.Cases.{fit-cases}
 use Rattle.promise.specs.Kinds as K
-use Rattle.promise.specs.World.{World, Event, fit, write, writeByte, read, slice, move, period, reset, level, serial, hostWrite, step}
-use Rattle.channels.specs.History.{Handed, fitsAgain}
+use Rattle.promise.specs.World.{World, Event, fit, write, writeByte, read, slice, move, period, reset, level, serial, hostWrite, Handed, step}
+use Rattle.channels.specs.History.{fitsAgain}
 use Rattle.channels.specs.laws.Begins.{Apart, Begins, fit-begins}
 use Rattle.channels.specs.laws.Quiet.{byte-quiet, move-quiet, nothing, period-quiet, read-quiet, reset-quiet, write-quiet}
 use Rattle.channels.specs.laws.SliceEvents.{slice-goes}

@@ -21,8 +21,8 @@ use Rattle.pcl.specs.declared.answers.SliceCall.{SliceCall}
 use Rattle.ends.specs.Ends.{raised}
 use Rattle.promise.specs.laws.RegisterReads.{serial-is}
 use Rattle.promise.specs.Kinds.{kindOf, other, own, quiet, sliceKind}
-use Rattle.promise.specs.World.{World, Event, fit, write, writeByte, read, slice, move, period, reset, level, serial, hostWrite, step}
-use Rattle.channels.specs.History.{AllHanded, Handed, Past, fitsAgain, lastOpened, next, opensNow, past, receiverOpen, receiverSerial, senderOpen, senderSerial}
+use Rattle.promise.specs.World.{World, Event, fit, write, writeByte, read, slice, move, period, reset, level, serial, hostWrite, Handed, AllHanded, step}
+use Rattle.channels.specs.History.{Past, fitsAgain, lastOpened, next, opensNow, past, receiverOpen, receiverSerial, senderOpen, senderSerial}
 use Rattle.channels.specs.Statement.{CountTogether, Joined, OnOneChannel, OpenBetween, OpenedTogether, OpensInOwnSlice, OpensTogether, OpensWithOne, SentByOne, SentFrom, SerialCounts, SerialOutlasts, SerialTogether, ShowOne, SucceedsTogether, maskOf}
 use Rattle.channels.specs.laws.Begins.{Apart, Begins}
 use Rattle.channels.specs.laws.Events.{begins, goes-on, steps}

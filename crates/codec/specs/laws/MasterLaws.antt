@@ -6,8 +6,8 @@ use mathlib.Core.List.{List, [], _∷_}
 use Prim.Native.Nat.{ℕ, _+_, _^_, _≤_, _<_, max}
 use native.Mathlib.Omega.{arith}
 use borrow.Author.Tests.{le-leb, leb-true}
-use lib.Dec.{leb}
-use lib.ListN.{length, length-take, length-drop}
+use lib.Dec.{leb, lit≤}
+use lib.ListN.{length}
 use lib.Seq.{take-all}
 use Rattle.laws.specs.Bits.{bits, bitAt}
 use Rattle.laws.specs.Pick.{here, either}
@@ -16,11 +16,13 @@ use Rattle.laws.specs.laws.Fields.{Field, field, flag, Fit, number, value, numb
 use Rattle.master.specs.Side.{Within}
 use Rattle.master.specs.Writing.{autoFound}
 use Rattle.master.specs.declared.side.Master.{Master}
-use Rattle.silos.specs.Silo.{isEmpty}
+use Rattle.silos.specs.Silo.{isEmpty, words}
 use Rattle.silos.specs.declared.Silo.{Silo}
-use Rattle.codec.specs.Masters.{AUT-ADR, sectionWord, encMaster, addressesIn, switchIn, counterIn, decMaster, masterAt}
+use Rattle.codec.specs.Masters.{RING, ADDRESSES, AUT-ADR, sectionWord, masterFrom, encMaster, encNext, addressesIn, switchIn, counterIn, decMaster, masterAt}
+use Rattle.codec.specs.Rings.{siloOf, startFor, startNext, laidFrom, ringCell}
 use Rattle.codec.specs.Window.{cell, window, splice}
-use Rattle.codec.specs.laws.EndLaws.{same-silo}
+use Rattle.codec.specs.laws.EndLaws.{length-laid-silo, silo-laid, sized-of}
+use Rattle.codec.specs.laws.RingLaws.{start-for-lt, start-next-lt}
 use Rattle.codec.specs.laws.WindowLaws.{length-window, window-spliced}
 
 -- ---- the section's word
@@ -64,15 +66,24 @@ auto-stays s false some = rw (some refl)
 pub counter-stays : (place switch : ℕ) → 1 ≤ place → place ≤ switch → counterIn place switch ≡ place
 counter-stays place switch least most = sym (here _ (both (le-leb _ _ least) (le-leb _ _ most)) refl)
 
-module _ (m : Master) (h : Within m) where
-  pub length-master : length (encMaster m) ≡ 66
-  length-master = omega (arith, h .silo .cells64)
+-- from whatever place on the addresses lie
+module _ (start : ℕ) (there : start < 50) (old : List ℕ) (lent : length old ≡ 52) (m : Master) (h : Within m) where
+  ring-long : length (window old ADDRESSES 50) ≡ 50
+  ring-long = length-window old ADDRESSES 50 (omega arith)
 
-  silo-back : addressesIn (encMaster m) ≡ m .addresses
-  silo-back = same-silo (take-all 64 (m .addresses .cells) (omega (arith, h .silo .cells64))) (omega (arith, h .silo .most))
+  laid-long : length (laidFrom start (words (m .addresses)) (window old ADDRESSES 50)) ≡ 50
+  laid-long = length-laid-silo 50 (lit≤ tt) (lit≤ tt) (m .addresses) (h .silo) start there (window old ADDRESSES 50) ring-long
 
-  pub dec-enc-master : decMaster (encMaster m) ≡ m
-  dec-enc-master =
+  pub length-from : length (masterFrom start old m) ≡ 52
+  length-from = omega (arith, laid-long)
+
+  silo-back : addressesIn (masterFrom start old m) ≡ m .addresses
+  silo-back =
+      ap (siloOf 50 (ringCell start (m .addresses .held))) (take-all 50 _ (omega (arith, laid-long)))
+      ∙ silo-laid 50 (lit≤ tt) (lit≤ tt) (m .addresses) (h .silo) start there (window old ADDRESSES 50) ring-long
+
+  pub dec-from : decMaster (masterFrom start old m) ≡ m
+  dec-from =
       let v = value (sectionWord m) (fields m) (fit m h) (word-is m) in
       let switch : switchIn (sectionWord m) ≡ m .switch = ap (max 2) (v 1) ∙ omega arith in
       same silo-back
@@ -81,6 +92,25 @@ module _ (m : Master) (h : Within m) where
       (simp (v 4, on-bit))
       (rw (v 0, switch) (counter-stays (m .place) (m .switch) (h .least) (h .most)))
       switch
+
+module _ (old : List ℕ) (lent : length old ≡ 52) (m : Master) (h : Within m) where
+  for-there : startFor 50 (cell old RING) (m .addresses .held) < 50
+  for-there = start-for-lt 50 (cell old RING) (m .addresses .held) (lit≤ tt)
+
+  next-there : startNext 50 (cell old RING) < 50
+  next-there = start-next-lt 50 (cell old RING) (lit≤ tt)
+
+  pub length-master : length (encMaster old m) ≡ 52
+  length-master = length-from _ for-there old lent m h
+
+  pub dec-enc-master : decMaster (encMaster old m) ≡ m
+  dec-enc-master = dec-from _ for-there old lent m h
+
+  pub length-next : length (encNext old m) ≡ 52
+  length-next = either (λ (w : List ℕ). length w ≡ 52) (m .autoAddress) (λ e. length-master) (λ e. length-from _ next-there old lent m h)
+
+  pub dec-enc-next : decMaster (encNext old m) ≡ m
+  dec-enc-next = either (λ (w : List ℕ). decMaster w ≡ m) (m .autoAddress) (λ e. dec-enc-master) (λ e. dec-from _ next-there old lent m h)
 
 -- ---- what is read is within its values
 
@@ -98,12 +128,12 @@ module _ (place switch : ℕ) (two : 2 ≤ switch) where
   counter-most : counterIn place switch ≤ switch
   counter-most = either (λ (p : ℕ). p ≤ switch) (leb 1 place && leb place switch) (λ e. leb-true place switch (right-of (leb 1 place) _ e)) (λ e. omega arith)
 
-pub within-master : (w : List ℕ) → length w ≡ 66 → Within (decMaster w)
+pub within-master : (w : List ℕ) → length w ≡ 52 → Within (decMaster w)
 within-master w long =
     let word = cell w 1 in
     let two : 2 ≤ switchIn word = omega arith in
     record {
-      silo = record { most = omega arith; cells64 = simp (length-take, length-drop) (omega arith) };
+      silo = sized-of 50 (cell w RING) (window w ADDRESSES 50) (lit≤ tt) (lit≤ tt) (length-window w ADDRESSES 50 (omega arith));
       least = counter-least (bits word 0 5) (switchIn word) two;
       most = counter-most (bits word 0 5) (switchIn word) two;
       two = two;
@@ -113,9 +143,19 @@ within-master w long =
 
 -- ---- at a place of the cells
 
-module _ (cells : List ℕ) (at : ℕ) (fits : at + 66 ≤ length cells) where
-  pub master-loaded : Within (masterAt cells at)
-  master-loaded = within-master (window cells at 66) (length-window cells at 66 fits)
+module _ (cells : List ℕ) (at : ℕ) (fits : at + 52 ≤ length cells) where
+  lent : length (window cells at 52) ≡ 52
+  lent = length-window cells at 52 fits
 
-  pub master-stored : (m : Master) → Within m → masterAt (splice cells at (encMaster m)) at ≡ m
-  master-stored m h = ap decMaster (window-spliced cells at (encMaster m) 66 (length-master m h) fits) ∙ dec-enc-master m h
+  pub master-loaded : Within (masterAt cells at)
+  master-loaded = within-master (window cells at 52) lent
+
+  pub master-stored : (m : Master) → Within m → masterAt (splice cells at (encMaster (window cells at 52) m)) at ≡ m
+  master-stored m h =
+      let old = window cells at 52 in
+      ap decMaster (window-spliced cells at (encMaster old m) 52 (length-master old lent m h) fits) ∙ dec-enc-master old lent m h
+
+  pub next-stored : (m : Master) → Within m → masterAt (splice cells at (encNext (window cells at 52) m)) at ≡ m
+  next-stored m h =
+      let old = window cells at 52 in
+      ap decMaster (window-spliced cells at (encNext old m) 52 (length-next old lent m h) fits) ∙ dec-enc-next old lent m h

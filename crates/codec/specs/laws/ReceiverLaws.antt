@@ -45,11 +45,11 @@ same : (r : Receiver) {c c' : Commands} {m m' : Modes} {f f' : Faults} {o o' : O
     → c ≡ c' → m ≡ m' → f ≡ f' → o ≡ o' → x ≡ x' → made r c m f o x ≡ made r c' m' f' o' x'
 same r c m f o x = rw (c, m, f, o, x)
 
-module _ (r : Receiver) (h : Within r) where
-  pub length-receiver : length (encReceiver r) ≡ 73
-  length-receiver = length-end (r .end) (bit (r .channel .truncated)) (controlCell r) (statusCell r) (h .end)
+module _ (old : List ℕ) (lent : length old ≡ 73) (r : Receiver) (h : Within r) where
+  pub length-receiver : length (encReceiver old r) ≡ 73
+  length-receiver = length-end old lent (r .end) (bit (r .channel .truncated)) (controlCell r) (statusCell r) (h .end)
 
-  pub dec-enc-receiver : decReceiver (encReceiver r) ≡ r
+  pub dec-enc-receiver : decReceiver (encReceiver old r) ≡ r
   dec-enc-receiver =
       let extension = extensionOf (r .end .load .address .0) in
       let two : extension < 2 ^ 2 = omega (arith, h .end .load .eighteenBits) in
@@ -61,7 +61,7 @@ module _ (r : Receiver) (h : Within r) where
       status-back (r .end .shown .a) (r .end .shown .b) (r .end .opened) (r .outcome .rejectComplete) (r .channel .owed) (r .outcome .success)
       (r .channel .good) (r .faults .byteCountOverflow) (r .faults .timeOut) (r .faults .parity) (r .faults .transmissionError)
       (r .faults .memoryOverflow) (r .faults .nonexistentLocation) (r .channel .badParity) (h .end .shown .codeA) (h .end .shown .codeB) (statusCell r) refl in
-      let end = end-back (r .end) (bit (r .channel .truncated)) (controlCell r) (statusCell r) (h .end) (simp (c 1, on-bit)) (c 4) (simp (s 0, s 1))
+      let end = end-back old lent (r .end) (bit (r .channel .truncated)) (controlCell r) (statusCell r) (h .end) (simp (c 1, on-bit)) (c 4) (simp (s 0, s 1))
       (bitAt (statusCell r) RSR.CHN-OPN) (bitAt (controlCell r) MARK) (simp (s 2, on-bit)) (simp (c 3, on-bit)) in
       let groups : receiverIn (r .end) (bit (r .channel .truncated)) (controlCell r) (statusCell r) ≡ r =
       same r
@@ -91,5 +91,8 @@ module _ (cells : List ℕ) (at : ℕ) (fits : at + 73 ≤ length cells) where
   pub receiver-loaded : Within (receiverAt cells at)
   receiver-loaded = within-receiver (window cells at 73) (length-window cells at 73 fits)
 
-  pub receiver-stored : (r : Receiver) → Within r → receiverAt (splice cells at (encReceiver r)) at ≡ r
-  receiver-stored r h = ap decReceiver (window-spliced cells at (encReceiver r) 73 (length-receiver r h) fits) ∙ dec-enc-receiver r h
+  pub receiver-stored : (r : Receiver) → Within r → receiverAt (splice cells at (encReceiver (window cells at 73) r)) at ≡ r
+  receiver-stored r h =
+      let old = window cells at 73 in
+      let lent = length-window cells at 73 fits in
+      ap decReceiver (window-spliced cells at (encReceiver old r) 73 (length-receiver old lent r h) fits) ∙ dec-enc-receiver old lent r h

@@ -46,11 +46,11 @@ same-channel : {e e' a a' : Bool} {d d' : ℕ} → e ≡ e' → a ≡ a' → d �
     → _≡_ {A = Channel} (record { ending = e; awaiting = a; destination = d }) (record { ending = e'; awaiting = a'; destination = d' })
 same-channel e a d = rw (e, a, d)
 
-module _ (t : Transmitter) (h : Within t) where
-  pub length-transmitter : length (encTransmitter t) ≡ 73
-  length-transmitter = length-end (t .end) (t .channel .destination) (controlCell t) (statusCell t) (h .end)
+module _ (old : List ℕ) (lent : length old ≡ 73) (t : Transmitter) (h : Within t) where
+  pub length-transmitter : length (encTransmitter old t) ≡ 73
+  length-transmitter = length-end old lent (t .end) (t .channel .destination) (controlCell t) (statusCell t) (h .end)
 
-  pub dec-enc-transmitter : decTransmitter (encTransmitter t) ≡ t
+  pub dec-enc-transmitter : decTransmitter (encTransmitter old t) ≡ t
   dec-enc-transmitter =
       let extension = extensionOf (t .end .load .address .0) in
       let two : extension < 2 ^ 2 = omega (arith, h .end .load .eighteenBits) in
@@ -62,7 +62,7 @@ module _ (t : Transmitter) (h : Within t) where
       status-back (t .end .shown .a) (t .end .shown .b) (t .outcome .busBusy) (t .outcome .softwareReject) (t .end .opened) (t .outcome .success)
       (t .channel .ending) (t .faults .overrun) (t .faults .timeOut) (t .faults .masterDown) (t .faults .transmissionError)
       (t .faults .memoryOverflow) (t .faults .nonexistentLocation) (t .channel .awaiting) (h .end .shown .codeA) (h .end .shown .codeB) (statusCell t) refl in
-      let end = end-back (t .end) (t .channel .destination) (controlCell t) (statusCell t) (h .end) (simp (c 1, on-bit)) (c 4) (simp (s 0, s 1))
+      let end = end-back old lent (t .end) (t .channel .destination) (controlCell t) (statusCell t) (h .end) (simp (c 1, on-bit)) (c 4) (simp (s 0, s 1))
       (bitAt (statusCell t) TSR.BUSY) (bitAt (controlCell t) MARK) (simp (s 4, on-bit)) (simp (c 3, on-bit)) in
       let groups : transmitterIn (t .end) (t .channel .destination) (controlCell t) (statusCell t) ≡ t =
       same t
@@ -95,5 +95,8 @@ module _ (cells : List ℕ) (at : ℕ) (fits : at + 73 ≤ length cells) where
   pub transmitter-loaded : Within (transmitterAt cells at)
   transmitter-loaded = within-transmitter (window cells at 73) (length-window cells at 73 fits)
 
-  pub transmitter-stored : (t : Transmitter) → Within t → transmitterAt (splice cells at (encTransmitter t)) at ≡ t
-  transmitter-stored t h = ap decTransmitter (window-spliced cells at (encTransmitter t) 73 (length-transmitter t h) fits) ∙ dec-enc-transmitter t h
+  pub transmitter-stored : (t : Transmitter) → Within t → transmitterAt (splice cells at (encTransmitter (window cells at 73) t)) at ≡ t
+  transmitter-stored t h =
+      let old = window cells at 73 in
+      let lent = length-window cells at 73 fits in
+      ap decTransmitter (window-spliced cells at (encTransmitter old t) 73 (length-transmitter old lent t h) fits) ∙ dec-enc-transmitter old lent t h

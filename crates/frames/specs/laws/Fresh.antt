@@ -27,7 +27,7 @@ module _ (setup cells : List ℕ) (ok : setUpGood setup ≡ true) (room : unitPl
   each-started (suc n) h k below =
       let now = unitsFitted n setup cells in
       let l : length now ≡ length cells = fitted-length setup cells ok room n (omega arith) in
-      let fits : unitPlace n + 216 ≤ length now = omega arith in
+      let fits : unitPlace n + 202 ≤ length now = omega arith in
       ⊎-elim (λ (q : k ≡ n). rw q (started setup now n (good .units n h) fits))
       (λ (less : k < n). started-again (before-own setup now n (good .units n h) fits k (omega arith)) (each-started n (omega arith) k less))
       (eq-or-lt-of-le (le-of-suc-le-suc below))

@@ -28,7 +28,7 @@ pub record Holds (cells : List ℕ) (count : ℕ) (s : Sides) : Type 0 where
 -- every cell of a fitted unit that is not one of these is as it was
 abbrev pub OthersStay : (ℕ → Type 0) → List ℕ → List ℕ → Type 0
 OthersStay touched cells after =
-    (k : ℕ) → k < countIn cells → (touched k → ⊥) → (j : ℕ) → j < 216 → cell after (unitPlace k + j) ≡ cell cells (unitPlace k + j)
+    (k : ℕ) → k < countIn cells → (touched k → ⊥) → (j : ℕ) → j < 202 → cell after (unitPlace k + j) ≡ cell cells (unitPlace k + j)
 
 -- what a step at these units leaves
 pub record Leaves (touched : ℕ → Type 0) (cells after : List ℕ) (s : Sides) : Type 0 where

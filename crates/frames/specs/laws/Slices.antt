@@ -20,7 +20,7 @@ use Rattle.words.specs.declared.codes.Codes.{Codes}
 use Rattle.frames.specs.laws.Leaves.{Leaves, Anywhere, stays, master-within}
 use Rattle.frames.specs.laws.Serving.{served, unitFor, receiverFor, heardOn, unheardOn, sliceBy, sliceOn, servedBy, servedOn}
 use Rattle.frames.specs.laws.Sides.{Sides, sidesOf, withMaster}
-use Rattle.frames.specs.laws.Stores.{master-stored}
+use Rattle.frames.specs.laws.Stores.{next-stored}
 use Rattle.frames.specs.laws.Kept.{holder-most}
 
 -- the sides once the master's section has given its address
@@ -45,7 +45,7 @@ module _ (cells : List ℕ) (ok : inRange cells ≡ true) (mask : ℕ) (parity :
   section-passes =
       let section = masterOf cells m in
       let h = master-within (stays ok) m fitted in
-      let l = master-stored (stays ok) m fitted tt (nextOf section .side) (within-next section h) in
+      let l = next-stored (stays ok) m fitted tt (nextOf section .side) (within-next section h) in
       let s = served l (nextAddress cells m) (next-lt section h) mask parity in
       record { answer = ap Slot.Given (s .answer); leaves = s .leaves }
 

@@ -5,16 +5,16 @@ use mathlib.Core.Path.{_≡_, ap, _∙_}
 use Prim.Native.Nat.{ℕ, _+_, _≤_, _<_, min}
 use native.Mathlib.Omega.{arith}
 use lib.Dec.{lit<}
-use lib.ListN.{length}
+use lib.ListN.{length, replicate}
 use Rattle.cells.specs.laws.FitLaws.{transmitter-address-stored, receiver-address-stored, memory-length-stored}
-use Rattle.cells.specs.Fitted.{transmitterOf, receiverOf, masterOf}
+use Rattle.cells.specs.Fitted.{transmitterOf, receiverOf, masterOf, blank, unitFitted}
 use Rattle.cells.specs.Layout.{unitPlace, transmitterPlace, receiverPlace, masterPlace, ownCell, transmitterAddress, receiverAddress, memoryLength}
-use Rattle.codec.specs.laws.MasterLaws.{length-master, master-stored}
-use Rattle.codec.specs.Masters.{encMaster, decMaster}
-use Rattle.codec.specs.laws.ReceiverLaws.{length-receiver, receiver-stored}
-use Rattle.codec.specs.Receivers.{encReceiver, decReceiver}
-use Rattle.codec.specs.laws.TransmitterLaws.{length-transmitter, transmitter-stored}
-use Rattle.codec.specs.Transmitters.{encTransmitter, decTransmitter}
+use Rattle.codec.specs.laws.MasterLaws.{master-stored}
+use Rattle.codec.specs.Masters.{decMaster}
+use Rattle.codec.specs.laws.ReceiverLaws.{receiver-stored}
+use Rattle.codec.specs.Receivers.{decReceiver}
+use Rattle.codec.specs.laws.TransmitterLaws.{transmitter-stored}
+use Rattle.codec.specs.Transmitters.{decTransmitter}
 use Rattle.codec.specs.Window.{window, splice}
 use Rattle.codec.specs.laws.WindowLaws.{window-before, window-after, cell-before, cell-past}
 use Rattle.fitting.specs.Fit.{unitOf}
@@ -25,7 +25,7 @@ use Rattle.receiver.specs.laws.Keeps as RK
 use Rattle.receiver.specs.Side as R
 use Rattle.transmitter.specs.laws.Keeps as TK
 use Rattle.transmitter.specs.Side as T
-use Rattle.frames.specs.laws.Fits.{ownPut, transmitterPut, receiverPut, own-fits, transmitter-fits, receiver-fits, master-fits, master-within}
+use Rattle.frames.specs.laws.Fits.{ownPut, transmitterPut, receiverPut, sender, hearer, section, blank-fits, own-fits, transmitter-long, transmitter-fits, receiver-long, receiver-fits, master-long, master-fits, master-within}
 
 pub record Started (setup : List ℕ) (unit : ℕ) (cells : List ℕ) : Type 0 where
   pub transmitter : transmitterOf cells unit ≡ T.initial 0
@@ -38,18 +38,18 @@ pub record Started (setup : List ℕ) (unit : ℕ) (cells : List ℕ) : Type 0 w
 -- ---- a unit's block is as it was after a splice that is apart from it
 
 pub record SameBlock (unit : ℕ) (cells after : List ℕ) : Type 0 where
-  pub part : (p n : ℕ) → p + n ≤ 216 → window after (unitPlace unit + p) n ≡ window cells (unitPlace unit + p) n
+  pub part : (p n : ℕ) → p + n ≤ 202 → window after (unitPlace unit + p) n ≡ window cells (unitPlace unit + p) n
   pub own : (j : ℕ) → j < 4 → ownCell after j unit ≡ ownCell cells j unit
 
 module _ (cells : List ℕ) (at : ℕ) (w : List ℕ) (fits : at + length w ≤ length cells) (unit : ℕ) where
-  block-before : unitPlace unit + 216 ≤ at → SameBlock unit cells (splice cells at w)
+  block-before : unitPlace unit + 202 ≤ at → SameBlock unit cells (splice cells at w)
   block-before h =
       record {
         part = λ p n inside. window-before cells at w (unitPlace unit + p) n (omega arith) (omega arith);
         own = λ j inside. cell-before cells at w fits (unitPlace unit + j) (omega arith);
       }
 
-  pub block-past : at + length w ≤ unitPlace unit → unitPlace unit + 216 ≤ length cells → SameBlock unit cells (splice cells at w)
+  pub block-past : at + length w ≤ unitPlace unit → unitPlace unit + 202 ≤ length cells → SameBlock unit cells (splice cells at w)
   block-past h room =
       record {
         part = λ p n inside. window-after cells at w (unitPlace unit + p) (omega arith) (omega arith) n;
@@ -68,7 +68,7 @@ started-again {setup} {cells} {after} {unit} same s =
     record {
       transmitter = ap decTransmitter (same .part 4 73 (omega arith)) ∙ s .transmitter;
       receiver = ap decReceiver (same .part 77 73 (omega arith)) ∙ s .receiver;
-      master = ap decMaster (same .part 150 66 (omega arith)) ∙ s .master;
+      master = ap decMaster (same .part 150 52 (omega arith)) ∙ s .master;
       transmitterAt = ap (λ (n : ℕ). min 30 n + 1) own0 ∙ s .transmitterAt;
       receiverAt = ap (λ (n : ℕ). min 30 n + 1) own1 ∙ s .receiverAt;
       memory = rw (own2, own3) (s .memory);
@@ -76,27 +76,31 @@ started-again {setup} {cells} {after} {unit} same s =
 
 -- ---- one unit stored: it is started, and those before it are as they were
 
-module _ (setup cells : List ℕ) (unit : ℕ) (good : UnitGood setup unit) (room : unitPlace unit + 216 ≤ length cells) where
-  pub before-own : (k : ℕ) → unitPlace k + 216 ≤ unitPlace unit → SameBlock k cells (unitOf setup cells unit)
+module _ (setup cells : List ℕ) (unit : ℕ) (good : UnitGood setup unit) (room : unitPlace unit + 202 ≤ length cells) where
+  pub before-own : (k : ℕ) → unitPlace k + 202 ≤ unitPlace unit → SameBlock k cells (unitOf setup cells unit)
+  unfolding unitFitted
   before-own k h =
       same-then
       (same-then
-      (same-then (block-before cells (unitPlace unit) _ (own-fits setup cells unit good room) k h)
-      (block-before (ownPut setup cells unit) (transmitterPlace unit) (encTransmitter (T.initial 0)) (transmitter-fits setup cells unit good room) k (omega arith)))
-      (block-before (transmitterPut setup cells unit) (receiverPlace unit) (encReceiver (R.initial 0)) (receiver-fits setup cells unit good room) k (omega arith)))
-      (block-before (receiverPut setup cells unit) (masterPlace unit) (encMaster (M.initial (numberOf setup unit 2))) (master-fits setup cells unit good room) k (omega arith))
+      (same-then
+      (same-then (block-before cells (unitPlace unit) (replicate 202 0) (blank-fits setup cells unit good room) k h)
+      (block-before (blank cells unit) (unitPlace unit) _ (own-fits setup cells unit good room) k h))
+      (block-before (ownPut setup cells unit) (transmitterPlace unit) (sender setup cells unit) (transmitter-fits setup cells unit good room) k (omega arith)))
+      (block-before (transmitterPut setup cells unit) (receiverPlace unit) (hearer setup cells unit) (receiver-fits setup cells unit good room) k (omega arith)))
+      (block-before (receiverPut setup cells unit) (masterPlace unit) (section setup cells unit) (master-fits setup cells unit good room) k (omega arith))
 
   pub started : Started setup unit (unitOf setup cells unit)
+  unfolding unitFitted
   started =
-      let t = encTransmitter (T.initial 0) in
-      let r = encReceiver (R.initial 0) in
-      let m = encMaster (M.initial (numberOf setup unit 2)) in
+      let t = sender setup cells unit in
+      let r = hearer setup cells unit in
+      let m = section setup cells unit in
       let tf = transmitter-fits setup cells unit good room in
       let rf = receiver-fits setup cells unit good room in
       let mf = master-fits setup cells unit good room in
-      let tl : length t ≡ 73 = length-transmitter (T.initial 0) (TK.within-initial (lit< tt)) in
-      let rl : length r ≡ 73 = length-receiver (R.initial 0) (RK.within-initial (lit< tt)) in
-      let ml : length m ≡ 66 = length-master (M.initial (numberOf setup unit 2)) (master-within setup cells unit good room) in
+      let tl : length t ≡ 73 = transmitter-long setup cells unit good room in
+      let rl : length r ≡ 73 = receiver-long setup cells unit good room in
+      let ml : length m ≡ 52 = master-long setup cells unit good room in
       let own : (j : ℕ) → j < 4 → ownCell (unitOf setup cells unit) j unit ≡ ownCell (ownPut setup cells unit) j unit =
       λ j h.
       cell-before (receiverPut setup cells unit) (masterPlace unit) m mf (unitPlace unit + j) (omega arith)
@@ -116,7 +120,7 @@ module _ (setup cells : List ℕ) (unit : ℕ) (good : UnitGood setup unit) (roo
             ap decReceiver (window-before (receiverPut setup cells unit) (masterPlace unit) m (receiverPlace unit) 73 (omega arith) (omega arith))
             ∙ receiver-stored (transmitterPut setup cells unit) (receiverPlace unit) (omega arith) (R.initial 0) (RK.within-initial (lit< tt));
         master = master-stored (receiverPut setup cells unit) (masterPlace unit) (omega arith) (M.initial (numberOf setup unit 2)) (master-within setup cells unit good room);
-        transmitterAt = ap (λ (n : ℕ). min 30 n + 1) (own 0 (omega arith)) ∙ transmitter-address-stored a c d cells unit of (good .transmitter .0) (good .transmitter .1);
-        receiverAt = ap (λ (n : ℕ). min 30 n + 1) (own 1 (omega arith)) ∙ receiver-address-stored a c d cells unit of (good .receiver .0) (good .receiver .1);
-        memory = rw (own 2 (omega arith), own 3 (omega arith)) (memory-length-stored a c d cells unit of (good .memory .0) (good .memory .1));
+        transmitterAt = ap (λ (n : ℕ). min 30 n + 1) (own 0 (omega arith)) ∙ transmitter-address-stored a c d (blank cells unit) unit of (good .transmitter .0) (good .transmitter .1);
+        receiverAt = ap (λ (n : ℕ). min 30 n + 1) (own 1 (omega arith)) ∙ receiver-address-stored a c d (blank cells unit) unit of (good .receiver .0) (good .receiver .1);
+        memory = rw (own 2 (omega arith), own 3 (omega arith)) (memory-length-stored a c d (blank cells unit) unit of (good .memory .0) (good .memory .1));
       }

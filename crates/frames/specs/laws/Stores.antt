@@ -9,13 +9,13 @@ use native.Mathlib.Omega.{arith}
 use borrow.Author.Tests.{eqb-true, eqb-false}
 use lib.Dec.{eqb, lit≤}
 use lib.ListN.{length}
-use Rattle.cells.specs.Fitted.{Fitted, transmitterOf, receiverOf, masterOf, putTransmitter, putReceiver, putMaster}
+use Rattle.cells.specs.Fitted.{Fitted, transmitterOf, receiverOf, masterOf, transmitterCells, receiverCells, masterCells, putTransmitter, putReceiver, putMaster, putNext}
 use Rattle.cells.specs.laws.FrameLaws.{cell-kept, count-kept, holder-kept, length-kept, own-kept, in-range-kept}
 use Rattle.cells.specs.laws.HolderLaws.{set-holder, cell-after-holder, holder-put, length-after-holder, count-after-holder, own-after-holder, holder-in-range, transmitter-after-holder, receiver-after-holder, master-after-holder}
 use Rattle.cells.specs.laws.RangeLaws.{in-range-says}
 use Rattle.cells.specs.Layout.{countIn, putHolder, unitPlace}
 use Rattle.cells.specs.laws.PutLaws as Put
-use Rattle.codec.specs.Masters.{encMaster}
+use Rattle.codec.specs.Masters.{encMaster, encNext}
 use Rattle.codec.specs.Receivers.{encReceiver}
 use Rattle.codec.specs.Transmitters.{encTransmitter}
 use Rattle.codec.specs.Window.{splice}
@@ -41,28 +41,28 @@ module _ {touched : ℕ → Type 0} {cells middle : List ℕ} {s : Sides} (l : L
     here = still-fitted l u fitted
 
     -- a side is no cell of the unit's own
-    side-kept : (o : ℕ) (w : List ℕ) → 4 ≤ o → o + length w ≤ 216 → Kept cells (splice middle (unitPlace u + o) w)
+    side-kept : (o : ℕ) (w : List ℕ) → 4 ≤ o → o + length w ≤ 202 → Kept cells (splice middle (unitPlace u + o) w)
     side-kept o w side part =
         kept-then cells middle (splice middle (unitPlace u + o) w) (l .kept)
         (record { room = length-kept middle u here o w part; count = count-kept middle u here o w part; own = own-kept middle u here o w part side })
 
     -- and no cell of a unit that is not touched
-    others-stay : touched u → (o : ℕ) (w : List ℕ) → o + length w ≤ 216 → OthersStay touched cells (splice middle (unitPlace u + o) w)
+    others-stay : touched u → (o : ℕ) (w : List ℕ) → o + length w ≤ 202 → OthersStay touched cells (splice middle (unitPlace u + o) w)
     others-stay here-too o w part k there apart j h =
         cell-kept middle u here o w part k j h (λ e. absurd (apart (subst⁻¹ touched e here-too))) ∙ l .others k there apart j h
 
     -- of the cells with one part written, the sides are left to say
-    side-stored : touched u → (o : ℕ) (w : List ℕ) (after : Sides) → 4 ≤ o → o + length w ≤ 216
+    side-stored : touched u → (o : ℕ) (w : List ℕ) (after : Sides) → 4 ≤ o → o + length w ≤ 202
         → Holds (splice middle (unitPlace u + o) w) (countIn cells) after → Leaves touched cells (splice middle (unitPlace u + o) w) after
     side-stored here-too o w after side part holds =
         record { ranged = in-range-kept middle u here o w part ∙ l .ranged; kept = side-kept o w side part; holds = holds; others = others-stay here-too o w part }
 
     pub transmitter-stored : touched u → (t : Transmitter) → T.Within t → Leaves touched cells (putTransmitter middle u t) (withTransmitter s u t)
     transmitter-stored here-too t h =
-        let part = Put.transmitter-part t h in
-        side-stored here-too 4 (encTransmitter t) _ (lit≤ tt) part
+        let part = Put.transmitter-part middle u here t h in
+        side-stored here-too 4 (encTransmitter (transmitterCells middle u) t) _ (lit≤ tt) part
         (record {
-          holder = holder-kept middle u here 4 (encTransmitter t) part ∙ l .holds .holder;
+          holder = holder-kept middle u here 4 (encTransmitter (transmitterCells middle u) t) part ∙ l .holds .holder;
           transmitter = λ k there.
               stored (transmitterOf (putTransmitter middle u t)) (s .transmitter) u t (Put.transmitter-put middle u here t h) k
               (λ other. Put.transmitter-after-transmitter middle u here t h k (still-fitted l k there) other ∙ l .holds .transmitter k there);
@@ -72,10 +72,10 @@ module _ {touched : ℕ → Type 0} {cells middle : List ℕ} {s : Sides} (l : L
 
     pub receiver-stored : touched u → (r : Receiver) → R.Within r → Leaves touched cells (putReceiver middle u r) (withReceiver s u r)
     receiver-stored here-too r h =
-        let part = Put.receiver-part r h in
-        side-stored here-too 77 (encReceiver r) _ (lit≤ tt) part
+        let part = Put.receiver-part middle u here r h in
+        side-stored here-too 77 (encReceiver (receiverCells middle u) r) _ (lit≤ tt) part
         (record {
-          holder = holder-kept middle u here 77 (encReceiver r) part ∙ l .holds .holder;
+          holder = holder-kept middle u here 77 (encReceiver (receiverCells middle u) r) part ∙ l .holds .holder;
           transmitter = λ k there. Put.transmitter-after-receiver middle u here r h k (still-fitted l k there) ∙ l .holds .transmitter k there;
           receiver = λ k there.
               stored (receiverOf (putReceiver middle u r)) (s .receiver) u r (Put.receiver-put middle u here r h) k
@@ -85,15 +85,29 @@ module _ {touched : ℕ → Type 0} {cells middle : List ℕ} {s : Sides} (l : L
 
     pub master-stored : touched u → (m : Master) → M.Within m → Leaves touched cells (putMaster middle u m) (withMaster s u m)
     master-stored here-too m h =
-        let part = Put.master-part m h in
-        side-stored here-too 150 (encMaster m) _ (lit≤ tt) part
+        let part = Put.master-part middle u here m h in
+        side-stored here-too 150 (encMaster (masterCells middle u) m) _ (lit≤ tt) part
         (record {
-          holder = holder-kept middle u here 150 (encMaster m) part ∙ l .holds .holder;
+          holder = holder-kept middle u here 150 (encMaster (masterCells middle u) m) part ∙ l .holds .holder;
           transmitter = λ k there. Put.transmitter-after-master middle u here m h k (still-fitted l k there) ∙ l .holds .transmitter k there;
           receiver = λ k there. Put.receiver-after-master middle u here m h k (still-fitted l k there) ∙ l .holds .receiver k there;
           master = λ k there.
               stored (masterOf (putMaster middle u m)) (s .master) u m (Put.master-put middle u here m h) k
               (λ other. Put.master-after-master middle u here m h k (still-fitted l k there) other ∙ l .holds .master k there);
+        })
+
+    -- a section gone on by a slice
+    pub next-stored : touched u → (m : Master) → M.Within m → Leaves touched cells (putNext middle u m) (withMaster s u m)
+    next-stored here-too m h =
+        let part = Put.next-part middle u here m h in
+        side-stored here-too 150 (encNext (masterCells middle u) m) _ (lit≤ tt) part
+        (record {
+          holder = holder-kept middle u here 150 (encNext (masterCells middle u) m) part ∙ l .holds .holder;
+          transmitter = λ k there. Put.transmitter-after-next middle u here m h k (still-fitted l k there) ∙ l .holds .transmitter k there;
+          receiver = λ k there. Put.receiver-after-next middle u here m h k (still-fitted l k there) ∙ l .holds .receiver k there;
+          master = λ k there.
+              stored (masterOf (putNext middle u m)) (s .master) u m (Put.next-put middle u here m h) k
+              (λ other. Put.master-after-next middle u here m h k (still-fitted l k there) other ∙ l .holds .master k there);
         })
 
     -- ---- a side that is as it was, not stored

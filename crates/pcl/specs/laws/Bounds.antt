@@ -12,7 +12,7 @@ use Rattle.answering.specs.laws.Keeps.{code-lt}
 use Rattle.bus.specs.Slice.{heardOr, sliceOf, served}
 use Rattle.bus.specs.declared.slice.Given.{Given}
 use Rattle.bus.specs.declared.slice.Slot.{Slot}
-use Rattle.cells.specs.Fitted.{transmitterOf, receiverOf, masterOf, putMaster}
+use Rattle.cells.specs.Fitted.{transmitterOf, receiverOf, masterOf, putNext}
 use Rattle.cells.specs.Layout.{countIn, holderIn}
 use Rattle.cells.specs.laws.FittedLaws.{master-within}
 use Rattle.cells.specs.laws.RangeLaws.{in-range-says, fitted}
@@ -87,7 +87,7 @@ narrow cells mask parity =
     let u = holderIn cells - 1 in
     let there : u < countIn cells = omega (arith, eqb-false (holderIn cells) 0 some) in
     let m = masterOf cells u in
-    served-narrow (putMaster cells u (nextOf m .side)) mask (eqb parity 1) (nextOf m .address) (next-lt m (master-within cells u (fitted cells ok u there)))))
+    served-narrow (putNext cells u (nextOf m .side)) mask (eqb parity 1) (nextOf m .address) (next-lt m (master-within cells u (fitted cells ok u there)))))
 
 -- of every move call, whatever it was lent
 pub short : (cells memory : List ℕ) (unit side : ℕ) → ShortCall (moveCall cells memory unit side .0)

@@ -4,8 +4,8 @@ use mathlib.Core.Bool.{Bool, true, false, not, _&&_, _||_}
 use mathlib.Core.Path.{_≡_, refl, sym, _∙_}
 use Prim.Native.Nat.{ℕ, zero, suc, _+_, _*_, _/_, _%_, _^_, _<_, min}
 use native.Mathlib.Omega.{arith}
-use borrow.Author.Tests.{eq-eqb, ne-eqb, eqb-true, eqb-false, not-true}
-use lib.Dec.{eqb}
+use borrow.Author.Tests.{eq-eqb, ne-eqb, eqb-true, eqb-false, leb-true, leb-false, not-true}
+use lib.Dec.{eqb, leb}
 use lib.Pow.{mod-pow-add, shr-shr}
 use Rattle.laws.specs.Bits.{on, bits, bitAt}
 use Rattle.laws.specs.Pick.{by}
@@ -45,6 +45,9 @@ no-fault s =
 pub faultless : (s : ℕ) → bits s 9 6 ≡ 0 → (bitAt s 9 || bitAt s 10 || bitAt s 11 || bitAt s 12 || bitAt s 13 || bitAt s 14) ≡ false
 faultless s z = not-true _ (sym (no-fault s) ∙ eq-eqb (bits s 9 6) 0 z)
 
--- a silo that reads as empty is empty
-pub none-held : (held : ℕ) → eqb held 0 ≡ eqb (min 64 held) 0
-none-held held = same-zero held (min 64 held) (λ (z : held ≡ 0). omega arith) (λ (z : min 64 held ≡ 0). omega arith)
+-- a word is held where the ring's cell has a length above 0
+pub some-held : (ring : ℕ) → leb 64 ring ≡ not (eqb (min 64 (ring / 64)) 0)
+some-held ring =
+    by (leb 64 ring)
+    (λ e. let h = leb-true 64 ring e in rw (e, ne-eqb (min 64 (ring / 64)) 0 (λ (z : min 64 (ring / 64) ≡ 0). omega arith)))
+    (λ e. let h = leb-false 64 ring e in rw (e, eq-eqb (min 64 (ring / 64)) 0 (omega arith)))

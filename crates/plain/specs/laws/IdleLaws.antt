@@ -7,7 +7,7 @@ use Prim.Native.Nat.{ℕ, _+_, _<_}
 use lib.Dec.{eqb, lit<}
 use Rattle.cells.specs.Fitted.{transmitterOf}
 use Rattle.cells.specs.Layout.{transmitterPlace}
-use Rattle.codec.specs.Ends.{HELD, OWN, CONTROL, STATUS}
+use Rattle.codec.specs.Ends.{RING, OWN, CONTROL, STATUS}
 use Rattle.codec.specs.Transmitters.{decTransmitter}
 use Rattle.codec.specs.Window.{cell, window}
 use Rattle.codec.specs.laws.WindowLaws.{cell-window}
@@ -18,7 +18,7 @@ use Rattle.silos.specs.Silo.{isEmpty}
 use Rattle.transmitter.specs.Side.{hasError}
 use Rattle.transmitter.specs.declared.side.Transmitter.{Transmitter}
 use Rattle.plain.specs.Idle.{actsBy, addressedBy}
-use Rattle.plain.specs.laws.Faults.{no-fault, none-held}
+use Rattle.plain.specs.laws.Faults.{no-fault, some-held}
 
 -- ---- an open transmitter acts, and a closed one where it may open
 
@@ -45,11 +45,11 @@ module _ (cells : List ℕ) (unit : ℕ) where
   at : (k : ℕ) → k < 73 → cell (window cells (transmitterPlace unit) 73) k ≡ cell cells (transmitterPlace unit + k)
   at k h = cell-window cells (transmitterPlace unit) 73 k h
 
-  pub acts-in-place : actsBy (cell cells (transmitterPlace unit + HELD)) (cell cells (transmitterPlace unit + CONTROL)) (cell cells (transmitterPlace unit + STATUS)) ≡ actsOn (chosen (transmitterOf cells unit))
+  pub acts-in-place : actsBy (cell cells (transmitterPlace unit + RING)) (cell cells (transmitterPlace unit + CONTROL)) (cell cells (transmitterPlace unit + STATUS)) ≡ actsOn (chosen (transmitterOf cells unit))
   acts-in-place =
-      rw (← at HELD (lit< tt), ← at CONTROL (lit< tt), ← at STATUS (lit< tt))
+      rw (← at RING (lit< tt), ← at CONTROL (lit< tt), ← at STATUS (lit< tt))
       (let w = window cells (transmitterPlace unit) 73 in
-      sym (acts-is (decTransmitter w) ∙ rw (← none-held (cell w HELD), ← no-fault (cell w STATUS)) refl))
+      sym (acts-is (decTransmitter w) ∙ rw (← some-held (cell w RING), ← no-fault (cell w STATUS)) refl))
 
   pub addressed-in-place : addressedBy (cell cells (transmitterPlace unit + OWN)) (cell cells (transmitterPlace unit + CONTROL)) (cell cells (transmitterPlace unit + STATUS)) ≡ destinationOf (transmitterOf cells unit)
   addressed-in-place = rw (← at OWN (lit< tt), ← at CONTROL (lit< tt), ← at STATUS (lit< tt)) refl

@@ -1,31 +1,31 @@
--- A plain move on the lent cells: three cells of the head and the silo's are changed, and they are the cells of the side that the rule gives.
+-- A plain move on the lent cells: three cells of the head and at most one of the silo's ring are changed, and they are the cells of the side
+-- that the rule gives, written in the place of the window that stood there.
 -- Assumes nothing.
 use mathlib.Core.Bool.{Bool, true, false, not, _&&_, _||_}
 use mathlib.Core.Path.{_≡_, refl, ap, sym, _∙_}
 use mathlib.Core.List.{List, _++_}
-use Prim.Native.Nat.{ℕ, _+_, _-_, _/_, _%_, _^_, _≤_, _<_}
+use Prim.Native.Nat.{ℕ, _+_, _/_, _%_, _^_, _≤_, _<_}
 use native.Mathlib.Omega.{arith}
-use borrow.Author.Tests.{ltb-true, eqb-true, eqb-false, eq-eqb, ne-eqb, not-true}
-use lib.Dec.{eqb, ltb, lit<}
-use lib.ListN.{length, getD, set, length-set, length-append, length-drop}
+use borrow.Author.Tests.{ltb-true, leb-true, eqb-true, eq-eqb, ne-eqb}
+use lib.Dec.{eqb, leb, ltb}
+use lib.ListN.{length, getD, set}
 use Rattle.codec.specs.Receivers.{encReceiver, decReceiver, receiverAt}
 use Rattle.codec.specs.Transmitters.{encTransmitter, decTransmitter, transmitterAt}
-use Rattle.codec.specs.Window.{cell, window, splice}
+use Rattle.codec.specs.Window.{cell, window}
 use Rattle.codec.specs.laws.WindowLaws.{length-window, cell-window}
-use Rattle.laws.specs.Bits.{bit, bits, bitAt}
-use Rattle.laws.specs.Pick.{by}
+use Rattle.laws.specs.Bits.{bits, bitAt}
 use Rattle.laws.specs.laws.Both.{left-of, right-of}
+use Rattle.plain.specs.Places.{front, behind, withOne, withoutOldest}
 use Rattle.receiver.specs.Moves as R
 use Rattle.receiver.specs.declared.moves.Moved as RM
-use Rattle.silos.specs.Cells.{shifted}
 use Rattle.transmitter.specs.Moves as T
 use Rattle.transmitter.specs.declared.moves.Moved as TM
 use Rattle.words.specs.declared.answers.Move.{Move}
-use Rattle.plain_moves.specs.Moving.{Plain, wordAt, headMoved}
-use Rattle.plain.specs.laws.Heads.{head-and-silo}
+use Rattle.plain_moves.specs.Moving.{Plain, roomBy, wordAt, headMoved}
+use Rattle.plain.specs.laws.Heads.{headAt, head-and-silo}
 use Rattle.plain_moves.specs.laws.MayMove.{may-out, may-in}
-use Rattle.plain_moves.specs.laws.Moved.{oneMore, oneFewer, transmitter-moved, receiver-moved}
-use Rattle.plain_moves.specs.laws.Sides.{side, Normal, transmitter-kept, receiver-kept}
+use Rattle.plain_moves.specs.laws.Moved.{oneMore, oneFewer, parts-put, parts-taken, transmitter-moved, receiver-moved}
+use Rattle.plain_moves.specs.laws.Sides.{side, transmitter-kept, receiver-kept}
 
 -- ---- what the test says
 
@@ -53,8 +53,8 @@ plain-says block own limit low count control busy ok =
     record {
       since = omega (arith, ltb-true block 129 (left-of a b ab));
       single = ltb-true own limit (right-of a b ab);
-      low15 = ltb-true low 32767 (right-of (a && b) c abc);
-      count15 = ltb-true count 32767 (right-of (a && b && c) d abcd);
+      low15 = omega (arith, ltb-true low 32767 (right-of (a && b) c abc));
+      count15 = omega (arith, ltb-true count 32767 (right-of (a && b && c) d abcd));
       loaded = eq-eqb (bits control 1 1) 1 (omega arith);
       goes = ne-eqb (bits control 2 1) 1 (omega arith);
       marked = counts (eqb (bits control 3 1) 0) (bitAt control 3) busy (λ z. ne-eqb (bits control 3 1) 1 (omega (arith, eqb-true (bits control 3 1) 0 z))) (right-of (a && b && c && d && e) f ok);
@@ -63,75 +63,75 @@ plain-says block own limit low count control busy ok =
 same-pair : {a a' b b' : List ℕ} → a ≡ a' → b ≡ b' → _≡_ {A = List ℕ × List ℕ} (a, b) (a', b')
 same-pair a b = rw (a, b)
 
--- the answer and the cells of the side that a rule gives, and for a receiver the memory
-abbrev pub answered : TM.Moved → Move × List ℕ
-answered m = (m .answer, encTransmitter (m .side))
+-- the answer and the cells of the side that a rule gives, in the place of a window that stood there, and for a receiver the memory
+abbrev pub answered : List ℕ → TM.Moved → Move × List ℕ
+answered old m = (m .answer, encTransmitter old (m .side))
 
-abbrev pub answeredThere : RM.Moved × List ℕ → Move × List ℕ × List ℕ
-answeredThere m = (m .0 .answer, encReceiver (m .0 .side), m .1)
+abbrev pub answeredThere : List ℕ → RM.Moved × List ℕ → Move × List ℕ × List ℕ
+answeredThere old m = (m .0 .answer, encReceiver old (m .0 .side), m .1)
 
 -- ---- over numbers
 
-module _ (held block own low count control status crc serial : ℕ) (silo : List ℕ) where
+module _ (ring block own low count control status crc serial : ℕ) (silo : List ℕ) where
   abbrev before : List ℕ
-  before = side held block own low count control status crc serial silo
+  before = side ring block own low count control status crc serial silo
 
   -- of what may move
-  out-says : T.mayMove (decTransmitter before) ≡ true → (bitAt control 14 ≡ true) × (held < 64)
+  out-says : T.mayMove (decTransmitter before) ≡ true → (bitAt control 14 ≡ true) × (ring < 4096)
   out-says may =
       let a = bitAt control 14 in
       let b = bitAt control 1 in
       let c = eqb (bits status 9 6) 0 in
-      let d = ltb held 64 in
+      let d = roomBy ring in
       let e = not (bitAt control 7) in
       let f = not (bitAt status 8 && bitAt status 6) in
-      let abcd = left-of (a && b && c && d) e (left-of (a && b && c && d && e) f (may-out held block own low count control status crc serial silo ∙ may)) in
-      (left-of a b (left-of (a && b) c (left-of (a && b && c) d abcd)), ltb-true held 64 (right-of (a && b && c) d abcd))
+      let abcd = left-of (a && b && c && d) e (left-of (a && b && c && d && e) f (may-out ring block own low count control status crc serial silo ∙ may)) in
+      (left-of a b (left-of (a && b) c (left-of (a && b && c) d abcd)), ltb-true ring 4096 (right-of (a && b && c) d abcd))
 
-  in-says : R.mayMove (decReceiver before) ≡ true → 1 ≤ held
+  in-says : R.mayMove (decReceiver before) ≡ true → 64 ≤ ring
   in-says may =
       let a = bitAt control 14 in
-      let b = not (eqb held 0) in
+      let b = leb 64 ring in
       let c = eqb (bits status 9 6) 0 in
-      let ab = left-of (a && b) c (may-in held block own low count control status crc serial silo ∙ may) in
-      let some : held ≡ 0 → ⊥ = eqb-false held 0 (not-true (eqb held 0) (right-of a b ab)) in
-      omega arith
+      leb-true 64 ring (right-of a b (left-of (a && b) c (may-in ring block own low count control status crc serial silo ∙ may)))
 
   module _ (control16 : control < 2 ^ 16) (status16 : status < 2 ^ 16) (crc16 : crc < 2 ^ 16) (serial16 : serial < 2 ^ 16) (cells64 : length silo ≡ 64) (memory : List ℕ) (fitted : ℕ)
       (there : wordAt low control < fitted) where
     pub out-moved : Plain block own 32 low count control (bitAt control 13 || bitAt status 6) → (status / 2 ^ 8 % 2 ≡ 1 → ⊥) → status < 2 ^ 15
         → T.mayMove (decTransmitter before) ≡ true
-        → _≡_ {A = Move × List ℕ} (answered (T.moved (decTransmitter before) memory fitted))
-        (Move.Done, oneMore held block own low count control status crc serial silo (getD memory (wordAt low control) 0))
+        → _≡_ {A = Move × List ℕ} (answered before (T.moved (decTransmitter before) memory fitted))
+        (Move.Done, oneMore ring block own low count control status crc serial silo (getD memory (wordAt low control) 0))
     out-moved p going settled may =
         let room = out-says may .1 in
         let word = getD memory (wordAt low control) 0 in
         let e : bitAt status 8 ≡ false = ne-eqb (bits status 8 1) 1 going in
         let a : bitAt status 15 ≡ false = ne-eqb (bits status 15 1) 1 (omega arith) in
-        ap answered (transmitter-moved held block own low count control status crc serial silo cells64 (p .low15) (p .count15) (p .loaded) (p .goes) memory fitted there may (out-says may .0) room)
+        ap (answered before) (transmitter-moved ring block own low count control status crc serial silo cells64 (omega (arith, p .low15)) (omega (arith, p .count15)) (p .loaded) (p .goes) memory fitted there may (out-says may .0) room)
         ∙ ap (λ (l : List ℕ). (Move.Done, l))
-        (transmitter-kept (held + 1) block own (low + 1) (count + 1) control status crc serial (set silo held word)
-        (record { most = omega arith; since = p .since; low15 = omega arith; count15 = omega arith; control16 = control16; status16 = status16; crc16 = crc16; serial16 = serial16; cells64 = length-set silo held word ∙ cells64 })
+        (transmitter-kept (withOne ring) block own (low + 1) (count + 1) control status crc serial (set silo (behind ring) word)
+        (record { since = p .since; low15 = omega arith; count15 = omega arith; control16 = control16; status16 = status16; crc16 = crc16; serial16 = serial16 })
+        before (parts-put ring block own low count control status crc serial silo cells64 room word)
         (p .single) (p .marked) (rw e) (rw a))
 
-    pub in-moved : Plain block own 1 low count control (bitAt status 4) → held ≤ 64 → R.mayMove (decReceiver before) ≡ true
-        → R.moved (decReceiver before) memory fitted ≡ (R.doneWith (decReceiver (oneFewer held block own low count control status crc serial silo)), set memory (wordAt low control) (getD silo 0 0))
-    in-moved p most may =
-        receiver-moved held block own low count control status crc serial silo cells64 (p .low15) (p .count15) (p .loaded) (p .goes) memory fitted there may (in-says may) most
+    pub in-moved : Plain block own 1 low count control (bitAt status 4) → ring < 4160 → R.mayMove (decReceiver before) ≡ true
+        → R.moved (decReceiver before) memory fitted ≡ (R.doneWith (decReceiver (oneFewer ring block own low count control status crc serial silo)), set memory (wordAt low control) (getD silo (front ring) 0))
+    in-moved p few may =
+        receiver-moved ring block own low count control status crc serial silo cells64 (omega (arith, p .low15)) (omega (arith, p .count15)) (p .loaded) (p .goes) memory fitted there may (in-says may) few
 
-    pub in-kept : Plain block own 1 low count control (bitAt status 4) → held ≤ 64
-        → encReceiver (decReceiver (oneFewer held block own low count control status crc serial silo)) ≡ oneFewer held block own low count control status crc serial silo
-    in-kept p most =
+    pub in-kept : Plain block own 1 low count control (bitAt status 4) → 64 ≤ ring → ring < 4160
+        → encReceiver before (decReceiver (oneFewer ring block own low count control status crc serial silo)) ≡ oneFewer ring block own low count control status crc serial silo
+    in-kept p some few =
         let none : own ≡ 0 = omega arith in
-        receiver-kept (held - 1) block own (low + 1) (count + 1) control status crc serial (shifted silo)
-        (record { most = omega arith; since = p .since; low15 = omega arith; count15 = omega arith; control16 = control16; status16 = status16; crc16 = crc16; serial16 = serial16; cells64 = simp (length-append, length-drop) (omega arith) })
+        receiver-kept (withoutOldest ring) block own (low + 1) (count + 1) control status crc serial silo
+        (record { since = p .since; low15 = omega arith; count15 = omega arith; control16 = control16; status16 = status16; crc16 = crc16; serial16 = serial16 })
+        before (parts-taken ring block own low count control status crc serial silo cells64 some few)
         (rw none) (p .marked)
 
 -- ---- at a place of the cells
 
 module _ (cells : List ℕ) (at : ℕ) (fits : at + 73 ≤ length cells) where
-  abbrev held : ℕ
-  held = cell cells at
+  abbrev ring : ℕ
+  ring = cell cells at
 
   abbrev low : ℕ
   low = cell cells (at + 3)
@@ -149,43 +149,42 @@ module _ (cells : List ℕ) (at : ℕ) (fits : at + 73 ≤ length cells) where
   cells64 = length-window cells (at + 9) 64 (omega arith)
 
   -- a transmitter that may move has room
-  pub out-room : T.mayMove (transmitterAt cells at) ≡ true → held < 64
+  pub out-room : T.mayMove (transmitterAt cells at) ≡ true → ring < 4096
   out-room may =
-      out-says held (cell cells (at + 1)) (cell cells (at + 2)) low (cell cells (at + 4)) control status (cell cells (at + 7)) (cell cells (at + 8)) silo
+      out-says ring (cell cells (at + 1)) (cell cells (at + 2)) low (cell cells (at + 4)) control status (cell cells (at + 7)) (cell cells (at + 8)) silo
       (ap (λ (w : List ℕ). T.mayMove (decTransmitter w)) (sym (head-and-silo cells at fits)) ∙ may) .1
 
   -- a receiver that may move has a word
-  pub in-some : R.mayMove (receiverAt cells at) ≡ true → 1 ≤ held
+  pub in-some : R.mayMove (receiverAt cells at) ≡ true → 64 ≤ ring
   in-some may =
-      in-says held (cell cells (at + 1)) (cell cells (at + 2)) low (cell cells (at + 4)) control status (cell cells (at + 7)) (cell cells (at + 8)) silo
+      in-says ring (cell cells (at + 1)) (cell cells (at + 2)) low (cell cells (at + 4)) control status (cell cells (at + 7)) (cell cells (at + 8)) silo
       (ap (λ (w : List ℕ). R.mayMove (decReceiver w)) (sym (head-and-silo cells at fits)) ∙ may)
 
   module _ (words : (i : ℕ) → cell cells i < 2 ^ 16) (memory : List ℕ) (fitted : ℕ) (there : wordAt low control < fitted) where
     pub out-plain : Plain (cell cells (at + 1)) (cell cells (at + 2)) 32 low (cell cells (at + 4)) control (bitAt control 13 || bitAt status 6)
         → (status / 2 ^ 8 % 2 ≡ 1 → ⊥) → status < 2 ^ 15 → T.mayMove (transmitterAt cells at) ≡ true
-        → _≡_ {A = Move × List ℕ} (answered (T.moved (transmitterAt cells at) memory fitted))
-        (Move.Done, headMoved cells at (held + 1) ++ set silo held (getD memory (wordAt low control) 0))
+        → _≡_ {A = Move × List ℕ} (answered (window cells at 73) (T.moved (transmitterAt cells at) memory fitted))
+        (Move.Done, headMoved cells at (withOne ring) ++ set silo (behind ring) (getD memory (wordAt low control) 0))
     out-plain p going settled may =
         let same = head-and-silo cells at fits in
-        ap (λ (w : List ℕ). answered (T.moved (decTransmitter w) memory fitted)) same
-        ∙ out-moved held (cell cells (at + 1)) (cell cells (at + 2)) low (cell cells (at + 4)) control status (cell cells (at + 7)) (cell cells (at + 8)) silo
+        ap (λ (w : List ℕ). answered w (T.moved (decTransmitter w) memory fitted)) same
+        ∙ out-moved ring (cell cells (at + 1)) (cell cells (at + 2)) low (cell cells (at + 4)) control status (cell cells (at + 7)) (cell cells (at + 8)) silo
         (words (at + 5)) (words (at + 6)) (words (at + 7)) (words (at + 8)) cells64 memory fitted there p going settled
         (ap (λ (w : List ℕ). T.mayMove (decTransmitter w)) (sym same) ∙ may)
 
     pub in-plain : Plain (cell cells (at + 1)) (cell cells (at + 2)) 1 low (cell cells (at + 4)) control (bitAt status 4)
-        → held ≤ 64 → R.mayMove (receiverAt cells at) ≡ true
-        → _≡_ {A = Move × List ℕ × List ℕ} (answeredThere (R.moved (receiverAt cells at) memory fitted))
-        (Move.Done, headMoved cells at (held - 1) ++ shifted silo, set memory (wordAt low control) (cell cells (at + 9)))
-    in-plain p most may =
+        → ring < 4160 → R.mayMove (receiverAt cells at) ≡ true
+        → _≡_ {A = Move × List ℕ × List ℕ} (answeredThere (window cells at 73) (R.moved (receiverAt cells at) memory fitted))
+        (Move.Done, headMoved cells at (withoutOldest ring) ++ silo, set memory (wordAt low control) (cell cells (at + 9 + front ring)))
+    in-plain p few may =
         let same = head-and-silo cells at fits in
-        let z : at + 9 + 0 ≡ at + 9 = omega arith in
-        let first : getD silo 0 0 ≡ cell cells (at + 9) = cell-window cells (at + 9) 64 0 (lit< tt) ∙ ap (cell cells) z in
+        let first : getD silo (front ring) 0 ≡ cell cells (at + 9 + front ring) = cell-window cells (at + 9) 64 (front ring) (omega arith) in
         let moved =
-        in-moved held (cell cells (at + 1)) (cell cells (at + 2)) low (cell cells (at + 4)) control status (cell cells (at + 7)) (cell cells (at + 8)) silo
-        (words (at + 5)) (words (at + 6)) (words (at + 7)) (words (at + 8)) cells64 memory fitted there p most (ap (λ (w : List ℕ). R.mayMove (decReceiver w)) (sym same) ∙ may) in
+        in-moved ring (cell cells (at + 1)) (cell cells (at + 2)) low (cell cells (at + 4)) control status (cell cells (at + 7)) (cell cells (at + 8)) silo
+        (words (at + 5)) (words (at + 6)) (words (at + 7)) (words (at + 8)) cells64 memory fitted there p few (ap (λ (w : List ℕ). R.mayMove (decReceiver w)) (sym same) ∙ may) in
         let kept =
-        in-kept held (cell cells (at + 1)) (cell cells (at + 2)) low (cell cells (at + 4)) control status (cell cells (at + 7)) (cell cells (at + 8)) silo
-        (words (at + 5)) (words (at + 6)) (words (at + 7)) (words (at + 8)) cells64 memory fitted there p most in
-        ap (λ (w : List ℕ). answeredThere (R.moved (decReceiver w) memory fitted)) same
-        ∙ ap answeredThere moved
+        in-kept ring (cell cells (at + 1)) (cell cells (at + 2)) low (cell cells (at + 4)) control status (cell cells (at + 7)) (cell cells (at + 8)) silo
+        (words (at + 5)) (words (at + 6)) (words (at + 7)) (words (at + 8)) cells64 memory fitted there p (in-some may) few in
+        ap (λ (w : List ℕ). answeredThere w (R.moved (decReceiver w) memory fitted)) same
+        ∙ ap (answeredThere (headAt cells at ++ silo)) moved
         ∙ ap (λ (l : List ℕ × List ℕ). (Move.Done, l .0, l .1)) (same-pair kept (ap (set memory (wordAt low control)) first))

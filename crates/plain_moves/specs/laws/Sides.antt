@@ -1,30 +1,29 @@
--- A side's 73 cells in their normal form: read as a side and written again, they are as they were.
+-- A side's 73 cells in their normal form: read as a side, and written in the place of the window that stood there, they are as they were.
 -- Assumes nothing.
 use mathlib.Core.Bool.{Bool, true, _&&_, _||_}
-use mathlib.Core.Path.{_≡_, refl, ap, sym, _∙_}
+use mathlib.Core.Path.{_≡_, refl, ap, _∙_}
 use mathlib.Core.List.{List, [], _∷_, _++_}
-use Prim.Native.Nat.{ℕ, _+_, _-_, _*_, _/_, _%_, _^_, _≤_, _<_, min}
+use Prim.Native.Nat.{ℕ, _+_, _*_, _%_, _^_, _≤_, _<_, min}
 use native.Mathlib.Omega.{arith}
 use lib.Dec.{eqb}
-use lib.ListN.{length, take}
-use lib.Seq.{take-all}
-use Rattle.codec.specs.Ends.{windowOf, endIn}
+use Rattle.codec.specs.Ends.{RING, SILO, windowOf, siloIn, endIn}
 use Rattle.codec.specs.Receivers as R
 use Rattle.codec.specs.Receivers.{encReceiver, decReceiver}
 use Rattle.codec.specs.Transmitters as T
 use Rattle.codec.specs.Transmitters.{encTransmitter, decTransmitter}
+use Rattle.codec.specs.Window.{cell, window}
 use Rattle.laws.specs.Bits.{bit, bits, bitAt}
 use Rattle.laws.specs.laws.Fields.{whole, bit-on}
+use Rattle.plain.specs.laws.PlaceLaws.{parts}
 use Rattle.words.specs.Address.{extensionOf}
 use Rattle.words.specs.laws.Registers.{controlBits, controlFields, control-is, statusBits, statusFields, status-is}
 
--- the nine cells of a head, and the silo's
+-- the nine cells of a head, and those of the silo's ring
 abbrev pub side : ℕ → ℕ → ℕ → ℕ → ℕ → ℕ → ℕ → ℕ → ℕ → List ℕ → List ℕ
-side held block own low count control status crc serial silo = (held ∷ block ∷ own ∷ low ∷ count ∷ control ∷ status ∷ crc ∷ serial ∷ []) ++ silo
+side ring block own low count control status crc serial silo = (ring ∷ block ∷ own ∷ low ∷ count ∷ control ∷ status ∷ crc ∷ serial ∷ []) ++ silo
 
 -- each number within its limits: it reads as it stands
-pub record Normal (held block low count control status crc serial : ℕ) (silo : List ℕ) : Type 0 where
-  pub most : held ≤ 64
+pub record Normal (block low count control status crc serial : ℕ) : Type 0 where
   pub since : block ≤ 128
   pub low15 : low < 2 ^ 15
   pub count15 : count < 2 ^ 15
@@ -32,7 +31,6 @@ pub record Normal (held block low count control status crc serial : ℕ) (silo :
   pub status16 : status < 2 ^ 16
   pub crc16 : crc < 2 ^ 16
   pub serial16 : serial < 2 ^ 16
-  pub cells64 : length silo ≡ 64
 
 -- ---- the two cells of bits, taken apart and joined again
 
@@ -50,20 +48,22 @@ status-whole s h =
 
 -- ---- a side
 
-same-cells : {held held' block block' own own' low low' count count' control control' status status' crc crc' serial serial' : ℕ} {silo silo' : List ℕ}
-    → held ≡ held' → block ≡ block' → own ≡ own' → low ≡ low' → count ≡ count' → control ≡ control' → status ≡ status' → crc ≡ crc' → serial ≡ serial' → silo ≡ silo'
-    → side held block own low count control status crc serial silo ≡ side held' block' own' low' count' control' status' crc' serial' silo'
-same-cells h b o l n c s k i w = rw (h, b, o, l, n, c, s, k, i, w)
+same-cells : {ring ring' block block' own own' low low' count count' control control' status status' crc crc' serial serial' : ℕ} {silo silo' : List ℕ}
+    → ring ≡ ring' → block ≡ block' → own ≡ own' → low ≡ low' → count ≡ count' → control ≡ control' → status ≡ status' → crc ≡ crc' → serial ≡ serial' → silo ≡ silo'
+    → side ring block own low count control status crc serial silo ≡ side ring' block' own' low' count' control' status' crc' serial' silo'
+same-cells r b o l n c s k i w = rw (r, b, o, l, n, c, s, k, i, w)
 
-module _ (held block own low count control status crc serial : ℕ) (silo : List ℕ) (h : Normal held block low count control status crc serial silo) where
+-- the two parts of the silo that is read are written as they stand
+module _ (ring block own low count control status crc serial : ℕ) (silo : List ℕ) (h : Normal block low count control status crc serial)
+    (old : List ℕ) (kept : parts (cell old RING) (window old SILO 64) (siloIn (side ring block own low count control status crc serial silo)) ≡ (ring, silo)) where
   abbrev cells : List ℕ
-  cells = side held block own low count control status crc serial silo
+  cells = side ring block own low count control status crc serial silo
 
   -- what both ends have. Whether they are open, and their mark, stand in the cells of bits.
   end-kept : (opened mark : Bool) (own' control' status' : ℕ) → own' ≡ own → control' ≡ control → status' ≡ status
-      → windowOf (endIn cells opened mark) own' control' status' ≡ cells
+      → windowOf old (endIn cells opened mark) own' control' status' ≡ cells
   end-kept opened mark own' control' status' o c s =
-      same-cells (omega arith) (omega arith) o (omega arith) (omega arith) c s (omega arith) (omega arith) (take-all 64 silo (omega arith))
+      same-cells (ap (λ (p : ℕ × List ℕ). p .0) kept) (omega arith) o (omega arith) (omega arith) c s (omega arith) (omega arith) (ap (λ (p : ℕ × List ℕ). p .1) kept)
 
   -- the mark that is read is the one that stands there
   control-kept : (mark : Bool) → mark ≡ bitAt control 3
@@ -83,14 +83,14 @@ module _ (held block own low count control status crc serial : ℕ) (silo : List
 
   pub transmitter-kept : own < 32 → bitAt control 3 && (bitAt control 13 || bitAt status 6) ≡ bitAt control 3
       → bitAt status 8 && bitAt status 6 ≡ bitAt status 8 → bitAt status 15 && eqb (min 128 block) 128 ≡ bitAt status 15
-      → encTransmitter (decTransmitter cells) ≡ cells
+      → encTransmitter old (decTransmitter cells) ≡ cells
   transmitter-kept latched marked ending awaiting =
       let t = decTransmitter cells in
       end-kept (bitAt status 6) (bitAt control 3) (own % 32) (T.controlCell t) (T.statusCell t) (omega arith) (control-kept (t .end .mark) marked)
       (status-kept (bitAt status 6) (t .channel .ending) (t .channel .awaiting) refl ending awaiting)
 
   pub receiver-kept : bit (bitAt own 0 && bitAt status 4) ≡ own → bitAt control 3 && bitAt status 4 ≡ bitAt control 3
-      → encReceiver (decReceiver cells) ≡ cells
+      → encReceiver old (decReceiver cells) ≡ cells
   receiver-kept truncated marked =
       let r = decReceiver cells in
       end-kept (bitAt status 4) (bitAt control 3) (bit (r .channel .truncated)) (R.controlCell r) (R.statusCell r) truncated (control-kept (r .end .mark) marked)

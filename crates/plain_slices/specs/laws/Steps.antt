@@ -8,9 +8,8 @@ use Prim.Native.Nat.{ℕ, _+_, _-_, _*_, _/_, _%_, _^_, _≤_, _<_, min}
 use native.Mathlib.Nat.{add-zero, not-suc-le-zero}
 use native.Mathlib.Omega.{arith}
 use borrow.Author.Tests.{leb-true, ltb-true, eqb-true, eq-eqb}
-use lib.Dec.{eqb, leb, ltb, lit<}
+use lib.Dec.{eqb, leb, ltb, lit≤, lit<}
 use lib.ListN.{length, getD, set}
-use lib.Seq.{getD-take}
 use Rattle.answering.specs.Choice.{openWithAnother}
 use Rattle.answering.specs.laws.Listening.{afterWord, afterCrc, afterDue}
 use Rattle.codec.specs.Receivers.{encReceiver, decReceiver, receiverAt}
@@ -24,7 +23,6 @@ use Rattle.sending.specs.Choice.{allSent}
 use Rattle.sending.specs.Events.{counted, restarted}
 use Rattle.sending.specs.Hearing.{showing, afterSending}
 use Rattle.sending.specs.declared.choice.Choice.{Choice}
-use Rattle.silos.specs.Cells.{shifted}
 use Rattle.silos.specs.Silo.{oldest}
 use Rattle.slices.specs.Slice.{exchanged}
 use Rattle.slices.specs.declared.Pair.{Pair}
@@ -32,13 +30,13 @@ use Rattle.slices.specs.laws.InStep.{InStep, word-step, due-step, due-verdict}
 use Rattle.transmitter.specs.Requests.{settled}
 use Rattle.transmitter.specs.declared.side.Transmitter.{Transmitter}
 use Rattle.words.specs.Crc.{crcWord}
-use Rattle.plain_slices.specs.Carried.{Placed, between, putBoth, Carried, Tried}
-use Rattle.plain_slices.specs.Heads.{headed, written, unmarked, acknowledged, wordCarried, dueSent, dueTaken, senderRestarted, receiverRestarted}
+use Rattle.plain_slices.specs.Carried.{Placed, between, receiverPut, putBoth, Carried, Tried}
+use Rattle.plain_slices.specs.Heads.{headed, written, firstAt, unmarked, acknowledged, wordCarried, dueSent, dueTaken, senderRestarted, receiverRestarted}
 use Rattle.plain_slices.specs.Tests.{talksBy, talksAt, listensBy, listensAt, inStepAt, Sixteen}
+use Rattle.plain.specs.Places.{front, behind, withOne, withoutOldest}
 use Rattle.plain.specs.laws.Heads.{headAt, head-and-silo}
 use Rattle.plain_slices.specs.laws.Listeners.{Listens}
 use Rattle.plain_slices.specs.laws.Listeners as Listener
-use Rattle.plain.specs.laws.Shifts.{length-shifted}
 use Rattle.plain_slices.specs.laws.Talkers.{Talks}
 use Rattle.plain_slices.specs.laws.Talkers as Talker
 
@@ -61,11 +59,11 @@ clear-going s h = omega arith
 clear-faults : (s : ℕ) → s / 256 % 128 ≡ 0 → bits s 9 6 ≡ 0
 clear-faults s h = omega arith
 
-pub talks-says : (held block own low count control status crc serial : ℕ) (silo : List ℕ) → talksBy held own low count control status ≡ true
-    → Talks held block own low count control status crc serial silo
-talks-says held block own low count control status crc serial silo ok =
-    let a = leb 1 held in
-    let b = leb held 64 in
+pub talks-says : (ring block own low count control status crc serial : ℕ) (cells : List ℕ) → talksBy ring own low count control status ≡ true
+    → Talks ring block own low count control status crc serial cells
+talks-says ring block own low count control status crc serial cells ok =
+    let a = leb 64 ring in
+    let b = ltb ring 4160 in
     let c = ltb own 32 in
     let d = ltb low 32768 in
     let e = ltb count 32768 in
@@ -81,7 +79,7 @@ talks-says held block own low count control status crc serial silo ok =
     let clear = eqb-true _ _ (right-of (a && b && c && d && e && f && g) h ok) in
     record {
       some = leb-true _ _ (left-of a b p2);
-      most = leb-true _ _ (right-of a b p2);
+      most = ltb-true _ _ (right-of a b p2);
       latched = ltb-true _ _ (right-of (a && b) c p3);
       low15 = ltb-true _ _ (right-of (a && b && c) d p4);
       count15 = ltb-true _ _ (right-of (a && b && c && d) e p5);
@@ -91,10 +89,10 @@ talks-says held block own low count control status crc serial silo ok =
       faultless = clear-faults status clear;
     }
 
-pub listens-says : (held block own low count control status crc serial : ℕ) (silo : List ℕ) (from : ℕ) → listensBy held own low count control status from ≡ true
-    → Listens held block own low count control status crc serial silo × (control / 2 ^ 8 % 2 ^ 5 ≡ from)
-listens-says held block own low count control status crc serial silo from ok =
-    let a = leb held 64 in
+pub listens-says : (ring block own low count control status crc serial : ℕ) (cells : List ℕ) (from : ℕ) → listensBy ring own low count control status from ≡ true
+    → Listens ring block own low count control status crc serial cells × (control / 2 ^ 8 % 2 ^ 5 ≡ from)
+listens-says ring block own low count control status crc serial cells from ok =
+    let a = ltb ring 4160 in
     let b = ltb own 2 in
     let c = ltb low 32768 in
     let d = ltb count 32768 in
@@ -111,7 +109,7 @@ listens-says held block own low count control status crc serial silo from ok =
     let p3 = left-of (a && b && c) d p4 in
     let p2 = left-of (a && b) c p3 in (
       record {
-        most = leb-true _ _ (left-of a b p2);
+        most = ltb-true _ _ (left-of a b p2);
         flag = ltb-true _ _ (right-of a b p2);
         low15 = ltb-true _ _ (right-of (a && b) c p3);
         count15 = ltb-true _ _ (right-of (a && b && c) d p4);
@@ -134,10 +132,13 @@ module _ (cells : List ℕ) (t r : ℕ) (placed : Placed cells t r) (w : List �
   first-cell : cell (splice cells t w) r ≡ cell cells r
   first-cell = simp add-zero at (other-cell 0 (lit< tt))
 
-  other-silo : window (splice cells t w) (r + 9) 64 ≡ window cells (r + 9) 64
-  other-silo =
-      ⊎-elim (λ (before : t + 73 ≤ r). window-after cells t w (r + 9) (omega arith) (omega arith) 64)
-      (λ (after : r + 73 ≤ t). window-before cells t w (r + 9) 64 (omega arith) (omega arith)) (placed .apart)
+  other-part : (k n : ℕ) → k + n ≤ 73 → window (splice cells t w) (r + k) n ≡ window cells (r + k) n
+  other-part k n h =
+      ⊎-elim (λ (before : t + 73 ≤ r). window-after cells t w (r + k) (omega arith) (omega arith) n)
+      (λ (after : r + 73 ≤ t). window-before cells t w (r + k) n (omega arith) (omega arith)) (placed .apart)
+
+  other-window : window (splice cells t w) r 73 ≡ window cells r 73
+  other-window = simp add-zero at (other-part 0 73 (lit≤ tt))
 
   -- so what is asked of it holds on
   still-fits : r + 73 ≤ length (splice cells t w)
@@ -154,16 +155,19 @@ module _ (cells : List ℕ) (t r : ℕ) (placed : Placed cells t r) (w : List �
       ≡ g (cell cells r) (cell cells (r + 1)) (cell cells (r + 2)) (cell cells (r + 3)) (cell cells (r + 4)) (cell cells (r + 5)) (cell cells (r + 6)) (cell cells (r + 7))
       (cell cells (r + 8)) (window cells (r + 9) 64)
   other-written g =
-      rw (first-cell, other-cell 1 (lit< tt), other-cell 2 (lit< tt), other-cell 3 (lit< tt), other-cell 4 (lit< tt), other-cell 5 (lit< tt), other-cell 6 (lit< tt), other-cell 7 (lit< tt), other-cell 8 (lit< tt), other-silo)
+      rw (first-cell, other-cell 1 (lit< tt), other-cell 2 (lit< tt), other-cell 3 (lit< tt), other-cell 4 (lit< tt), other-cell 5 (lit< tt), other-cell 6 (lit< tt), other-cell 7 (lit< tt), other-cell 8 (lit< tt), other-part 9 64 (lit≤ tt))
 
 -- what is asked of the second window holds when the first is written
-pub still-asked : (cells : List ℕ) (t r : ℕ) → Placed cells t r → (held block control status crc : ℕ) (f : List ℕ → List ℕ) → length (f (window cells (t + 9) 64)) ≡ 64
+pub still-asked : (cells : List ℕ) (t r : ℕ) → Placed cells t r → (ring block control status crc : ℕ)
     → (P : ℕ → ℕ → ℕ → Type 0) → P (cell cells r) (cell cells (r + 1)) (cell cells (r + 6))
-    → (r + 73 ≤ length (written cells t held block control status crc f))
-    × P (cell (written cells t held block control status crc f) r) (cell (written cells t held block control status crc f) (r + 1)) (cell (written cells t held block control status crc f) (r + 6))
-still-asked cells t r placed held block control status crc f long P h =
-    let w = headed cells t held block control status crc (f (window cells (t + 9) 64)) in
-    (still-fits cells t r placed w (omega arith), other-asked cells t r placed w (omega arith) P h)
+    → (r + 73 ≤ length (written cells t ring block control status crc (window cells (t + 9) 64)))
+    × P (cell (written cells t ring block control status crc (window cells (t + 9) 64)) r)
+    (cell (written cells t ring block control status crc (window cells (t + 9) 64)) (r + 1))
+    (cell (written cells t ring block control status crc (window cells (t + 9) 64)) (r + 6))
+still-asked cells t r placed ring block control status crc P h =
+    let w = headed cells t ring block control status crc (window cells (t + 9) 64) in
+    let wide : length w ≡ 73 = omega (arith, length-window cells (t + 9) 64 (omega arith)) in
+    (still-fits cells t r placed w wide, other-asked cells t r placed w wide P h)
 
 -- ---- the sides at two places, by the cells
 
@@ -196,17 +200,29 @@ in-step-says cells t r from ok sixteen =
     }
 
 module _ (cells : List ℕ) (t r from : ℕ) (placed : Placed cells t r) (s : StepAt cells t r from) where
+  abbrev at-t : List ℕ
+  at-t = headAt cells t ++ window cells (t + 9) 64
+
+  abbrev at-r : List ℕ
+  at-r = headAt cells r ++ window cells (r + 9) 64
+
+  stands-t : window cells t 73 ≡ at-t
+  stands-t = head-and-silo cells t (placed .sender)
+
+  stands-r : window cells r 73 ≡ at-r
+  stands-r = head-and-silo cells r (placed .receiver)
+
   abbrev T : Transmitter
-  T = decTransmitter (headAt cells t ++ window cells (t + 9) 64)
+  T = decTransmitter at-t
 
   abbrev R : Receiver
-  R = decReceiver (headAt cells r ++ window cells (r + 9) 64)
+  R = decReceiver at-r
 
   sender-at : transmitterAt cells t ≡ T
-  sender-at = ap decTransmitter (head-and-silo cells t (omega arith))
+  sender-at = ap decTransmitter stands-t
 
   receiver-at : receiverAt cells r ≡ R
-  receiver-at = ap decReceiver (head-and-silo cells r (omega arith))
+  receiver-at = ap decReceiver stands-r
 
   long-t : length (window cells (t + 9) 64) ≡ 64
   long-t = length-window cells (t + 9) 64 (omega arith)
@@ -239,7 +255,7 @@ module _ (cells : List ℕ) (t r from : ℕ) (placed : Placed cells t r) (s : St
   between-is = ap (λ (x : Transmitter). exchanged x (receiverAt cells r) from 0 false) sender-at ∙ ap (λ (x : Receiver). exchanged T x from 0 false) receiver-at
 
   -- a word
-  pub word : cell cells (t + 1) < 128 → cell cells (t + 6) < 2 ^ 15 → cell cells r < 64
+  pub word : cell cells (t + 1) < 128 → cell cells (t + 6) < 2 ^ 15 → cell cells r < 4096
       → between cells t r from ≡ record { transmitter = settled (counted (showing T 2 3)); receiver = afterWord R (oldest (T .end .silo)); codes = record { a = 2; b = 3 } }
   word short h room =
       between-is
@@ -265,8 +281,8 @@ module _ (cells : List ℕ) (t r from : ℕ) (placed : Placed cells t r) (s : St
 
   -- a window at each place, the second made of cells that the first leaves
   both-put : (x : Transmitter) (y : Receiver) (w : List ℕ) (g : ℕ → ℕ → ℕ → ℕ → ℕ → ℕ → ℕ → ℕ → ℕ → List ℕ → List ℕ) → length w ≡ 73
-      → encTransmitter x ≡ w
-      → encReceiver y
+      → encTransmitter at-t x ≡ w
+      → encReceiver at-r y
       ≡ g (cell cells r) (cell cells (r + 1)) (cell cells (r + 2)) (cell cells (r + 3)) (cell cells (r + 4)) (cell cells (r + 5)) (cell cells (r + 6)) (cell cells (r + 7))
       (cell cells (r + 8)) (window cells (r + 9) 64)
       → splice (splice cells t w) r
@@ -275,15 +291,16 @@ module _ (cells : List ℕ) (t r from : ℕ) (placed : Placed cells t r) (s : St
       (window (splice cells t w) (r + 9) 64))
       ≡ putBoth cells t r x y
   both-put x y w g wide e e' =
-      ap (splice (splice cells t w) r) (other-written cells t r placed w wide g ∙ sym e') ∙ ap (λ (l : List ℕ). splice (splice cells t l) r (encReceiver y)) (sym e)
+      ap (splice (splice cells t w) r)
+      (other-written cells t r placed w wide g ∙ sym e' ∙ ap (λ (l : List ℕ). encReceiver l y) (sym (other-window cells t r placed w wide ∙ stands-r)))
+      ∙ ap (λ (l : List ℕ). receiverPut (splice cells t l) r y) (sym (ap (λ (l : List ℕ). encTransmitter l x) stands-t ∙ e))
 
-  word-is : getD (window cells (t + 9) 64) 0 0 ≡ cell cells (t + 9)
-  word-is = cell-window cells (t + 9) 64 0 (lit< tt) ∙ ap (cell cells) (add-zero (t + 9))
+  word-is : getD (window cells (t + 9) 64) (front (cell cells t)) 0 ≡ firstAt cells t
+  word-is = cell-window cells (t + 9) 64 (front (cell cells t)) (omega arith)
 
-  oldest-is : oldest (T .end .silo) ≡ cell cells (t + 9)
+  oldest-is : oldest (T .end .silo) ≡ firstAt cells t
   oldest-is =
-      rw (Talker.not-empty _ _ _ _ _ _ _ _ _ _ (s .talker) (s .sixteen (t + 5)) (s .sixteen (t + 6)) (s .sixteen (t + 7)) (s .sixteen (t + 8)) long-t)
-      (getD-take 64 (window cells (t + 9) 64) 0 0 (lit< tt) ∙ word-is)
+      Talker.oldest-is _ _ _ _ _ _ _ _ _ _ (s .talker) (s .sixteen (t + 5)) (s .sixteen (t + 6)) (s .sixteen (t + 7)) (s .sixteen (t + 8)) long-t ∙ word-is
 
   abbrev status-t : ℕ
   status-t = cell cells (t + 6)
@@ -294,26 +311,25 @@ module _ (cells : List ℕ) (t r from : ℕ) (placed : Placed cells t r) (s : St
   abbrev between-them : Pair
   between-them = between cells t r from
 
-  pub carried-word : cell cells (t + 1) < 128 → status-t < 2 ^ 15 → cell cells r < 64 → Carried cells t r from 3 (wordCarried cells t r)
+  pub carried-word : cell cells (t + 1) < 128 → status-t < 2 ^ 15 → cell cells r < 4096 → Carried cells t r from 3 (wordCarried cells t r)
   carried-word short h room =
       let is = word short h room in
-      let crc' = crcWord (cell cells (t + 7)) (cell cells (t + 9)) in
-      let wide : length (shifted (window cells (t + 9) 64)) ≡ 64 = length-shifted (window cells (t + 9) 64) 63 long-t in
+      let crc' = crcWord (cell cells (t + 7)) (firstAt cells t) in
       record {
         own = own;
         codes = ap (λ (p : Pair). p .codes) is;
         sides =
             both-put (between-them .transmitter) (between-them .receiver)
-            (headed cells t (cell cells t - 1) (cell cells (t + 1) + 1) (unmarked (cell cells (t + 5))) (acknowledged status-t) crc' (shifted (window cells (t + 9) 64)))
-            (λ held since own low count control status check serial silo.
-            (held + 1) ∷ (since + 1) ∷ own ∷ low ∷ count ∷ unmarked control ∷ acknowledged status ∷ crc' ∷ serial ∷ set silo held (cell cells (t + 9)))
-            (omega arith)
-            (ap (λ (p : Pair). encTransmitter (p .transmitter)) is
+            (headed cells t (withoutOldest (cell cells t)) (cell cells (t + 1) + 1) (unmarked (cell cells (t + 5))) (acknowledged status-t) crc' (window cells (t + 9) 64))
+            (λ ring since own low count control status check serial words.
+            withOne ring ∷ (since + 1) ∷ own ∷ low ∷ count ∷ unmarked control ∷ acknowledged status ∷ crc' ∷ serial ∷ set words (behind ring) (firstAt cells t))
+            (omega (arith, long-t))
+            (ap (λ (p : Pair). encTransmitter at-t (p .transmitter)) is
             ∙ Talker.window-sent _ _ _ _ _ _ _ _ _ _ (s .talker) (s .sixteen (t + 5)) (s .sixteen (t + 6)) (s .sixteen (t + 7)) (s .sixteen (t + 8)) long-t short h
             ∙ rw word-is refl)
-            (ap (λ (p : Pair). encReceiver (p .receiver)) is
-            ∙ ap (λ (x : ℕ). encReceiver (afterWord R x)) oldest-is
-            ∙ Listener.window-stored _ _ _ _ _ _ _ _ _ _ (s .listener) (s .sixteen (r + 7)) (s .sixteen (r + 8)) long-r (cell cells (t + 9)) room (rw (← s .block) short)
+            (ap (λ (p : Pair). encReceiver at-r (p .receiver)) is
+            ∙ ap (λ (x : ℕ). encReceiver at-r (afterWord R x)) oldest-is
+            ∙ Listener.window-stored _ _ _ _ _ _ _ _ _ _ (s .listener) (s .sixteen (r + 7)) (s .sixteen (r + 8)) long-r (firstAt cells t) room (rw (← s .block) short)
             ∙ rw (← s .crc) refl);
       }
 
@@ -327,11 +343,11 @@ module _ (cells : List ℕ) (t r from : ℕ) (placed : Placed cells t r) (s : St
         sides =
             both-put (between-them .transmitter) (between-them .receiver)
             (headed cells t (cell cells t) (cell cells (t + 1)) (cell cells (t + 5)) (status-t / 16 * 16 + 6 + 32768) (cell cells (t + 7)) (window cells (t + 9) 64))
-            (λ held since own low count control status check serial silo. held ∷ since ∷ own ∷ low ∷ count ∷ control ∷ (status / 16 * 16 + 6 + 64 + 256) ∷ check ∷ serial ∷ silo)
+            (λ ring since own low count control status check serial words. ring ∷ since ∷ own ∷ low ∷ count ∷ control ∷ (status / 16 * 16 + 6 + 64 + 256) ∷ check ∷ serial ∷ words)
             (omega (arith, long-t))
-            (ap (λ (p : Pair). encTransmitter (p .transmitter)) is
+            (ap (λ (p : Pair). encTransmitter at-t (p .transmitter)) is
             ∙ Talker.window-due _ _ _ _ _ _ _ _ _ _ (s .talker) (s .sixteen (t + 5)) (s .sixteen (t + 6)) (s .sixteen (t + 7)) (s .sixteen (t + 8)) long-t full h)
-            (ap (λ (p : Pair). encReceiver (p .receiver)) is ∙ Listener.window-taken _ _ _ _ _ _ _ _ _ _ (s .listener) (s .sixteen (r + 7)) (s .sixteen (r + 8)) long-r (sym (s .block) ∙ full) none fresh);
+            (ap (λ (p : Pair). encReceiver at-r (p .receiver)) is ∙ Listener.window-taken _ _ _ _ _ _ _ _ _ _ (s .listener) (s .sixteen (r + 7)) (s .sixteen (r + 8)) long-r (sym (s .block) ∙ full) none fresh);
       }
 
   pub carried-verdict : cell cells (t + 1) ≡ 128 → 2 ^ 15 ≤ status-t → status-r / 2 ^ 6 % 2 ≡ 1 → status-r / 2 ^ 8 % 2 ≡ 1
@@ -344,11 +360,11 @@ module _ (cells : List ℕ) (t r from : ℕ) (placed : Placed cells t r) (s : St
         sides =
             both-put (between-them .transmitter) (between-them .receiver)
             (headed cells t (cell cells t) 0 (cell cells (t + 5)) (acknowledged (status-t % 32768)) 0 (window cells (t + 9) 64))
-            (λ held since own low count control status check serial silo. held ∷ 0 ∷ own ∷ low ∷ count ∷ control ∷ (acknowledged status - 320) ∷ 0 ∷ serial ∷ silo)
+            (λ ring since own low count control status check serial words. ring ∷ 0 ∷ own ∷ low ∷ count ∷ control ∷ (acknowledged status - 320) ∷ 0 ∷ serial ∷ words)
             (omega (arith, long-t))
-            (ap (λ (p : Pair). encTransmitter (p .transmitter)) is
+            (ap (λ (p : Pair). encTransmitter at-t (p .transmitter)) is
             ∙ Talker.window-passed _ _ _ _ _ _ _ _ _ _ (s .talker) (s .sixteen (t + 5)) (s .sixteen (t + 6)) (s .sixteen (t + 7)) (s .sixteen (t + 8)) long-t full h)
-            (ap (λ (p : Pair). encReceiver (p .receiver)) is ∙ Listener.window-restarted _ _ _ _ _ _ _ _ _ _ (s .listener) (s .sixteen (r + 7)) (s .sixteen (r + 8)) long-r owed good);
+            (ap (λ (p : Pair). encReceiver at-r (p .receiver)) is ∙ Listener.window-restarted _ _ _ _ _ _ _ _ _ _ (s .listener) (s .sixteen (r + 7)) (s .sixteen (r + 8)) long-r owed good);
       }
 
 -- ---- a slice that was tried

@@ -10,6 +10,7 @@ use lib.Dec.{eqb}
 use lib.ListN.{length, getD, take}
 use lib.Seq.{take-all}
 use Rattle.codec.specs.Ends.{loadOf}
+use Rattle.codec.specs.Rings.{siloOf}
 use Rattle.codec.specs.Transmitters.{encTransmitter, decTransmitter}
 use Rattle.laws.specs.Bits.{bit, bits, bitAt}
 use Rattle.laws.specs.laws.Fields.{bit-on}
@@ -18,7 +19,6 @@ use Rattle.sending.specs.Events.{counted, restarted}
 use Rattle.sending.specs.Hearing.{showing, afterSending}
 use Rattle.sending.specs.declared.choice.Choice.{Choice}
 use Rattle.sending.specs.laws.Talking.{Talking}
-use Rattle.silos.specs.Cells.{shifted}
 use Rattle.silos.specs.Silo.{isEmpty, oldest, taken}
 use Rattle.silos.specs.declared.Silo.{Silo}
 use Rattle.transmitter.specs.Bits.{commandsIn, modesIn, faultsIn, outcomeIn}
@@ -27,7 +27,9 @@ use Rattle.transmitter.specs.Side.{hasError}
 use Rattle.transmitter.specs.declared.side.Transmitter.{Transmitter}
 use Rattle.words.specs.Crc.{crcWord}
 use Rattle.words.specs.Load.{wordsLeft}
+use Rattle.plain.specs.Places.{front, withoutOldest}
 use Rattle.plain.specs.laws.Faults.{faultless}
+use Rattle.plain.specs.laws.PlaceLaws.{parts, same-parts, taken-parts, oldest-there}
 use Rattle.plain_slices.specs.laws.Kept.{control-with, status-with, same}
 
 -- the mark of a BUSY side stays
@@ -41,9 +43,12 @@ nothing-sent true true = refl
 nothing-sent true false = refl
 nothing-sent false b = refl
 
-module _ (held block own low count control status crc serial : ℕ) (silo : List ℕ) where
+module _ (ring block own low count control status crc serial : ℕ) (cells : List ℕ) where
+  abbrev old : List ℕ
+  old = ring ∷ block ∷ own ∷ low ∷ count ∷ control ∷ status ∷ crc ∷ serial ∷ cells
+
   abbrev t : Transmitter
-  t = decTransmitter (held ∷ block ∷ own ∷ low ∷ count ∷ control ∷ status ∷ crc ∷ serial ∷ silo)
+  t = decTransmitter old
 
   -- a transmitter whose own cell, load and bits are those of the window, with what a slice may change
   abbrev talker : Silo → ℕ → ℕ → ℕ → ℕ → Bool → Bool → Transmitter
@@ -68,8 +73,8 @@ module _ (held block own low count control status crc serial : ℕ) (silo : List
 
   -- open, with ST TXM, not ending, with no error; a word is held; and the cells are as a call writes them
   pub record Talks : Type 0 where
-    pub some : 1 ≤ held
-    pub most : held ≤ 64
+    pub some : 64 ≤ ring
+    pub most : ring < 4160
     pub latched : own < 32
     pub low15 : low < 2 ^ 15
     pub count15 : count < 2 ^ 15
@@ -78,7 +83,7 @@ module _ (held block own low count control status crc serial : ℕ) (silo : List
     pub going : status / 2 ^ 8 % 2 ≡ 0
     pub faultless : bits status 9 6 ≡ 0
 
-  module _ (k : Talks) (control16 : control < 2 ^ 16) (status16 : status < 2 ^ 16) (crc16 : crc < 2 ^ 16) (serial16 : serial < 2 ^ 16) (long : length silo ≡ 64) where
+  module _ (k : Talks) (control16 : control < 2 ^ 16) (status16 : status < 2 ^ 16) (crc16 : crc < 2 ^ 16) (serial16 : serial < 2 ^ 16) (long : length cells ≡ 64) where
     no-error : hasError t ≡ false
     no-error = faultless status (k .faultless)
 
@@ -89,14 +94,18 @@ module _ (held block own low count control status crc serial : ℕ) (silo : List
     going = rw (k .going)
 
     pub not-empty : isEmpty (t .end .silo) ≡ false
-    not-empty = let s = k .some in ne-eqb (min 64 held) 0 (omega arith)
+    not-empty = let s = k .some in ne-eqb (min 64 (ring / 64)) 0 (omega arith)
 
     pub more : allSent t ≡ false
     more = rw not-empty (nothing-sent (t .commands .startTransmission) (eqb (wordsLeft (t .end .load)) 0))
 
-    talker-window : (words : Silo) (a b since check : ℕ) (mark awaiting : Bool) → encTransmitter (talker words a b since check mark awaiting)
-        ≡ words .held ∷ since ∷ own ∷ low ∷ count ∷ (control - control / 2 ^ 3 % 2 * 2 ^ 3 + bit mark * 2 ^ 3)
-        ∷ (status % 2 ^ 15 / 2 ^ 4 * 2 ^ 4 + a + b * 2 ^ 2 + bit awaiting * 2 ^ 15) ∷ check ∷ serial ∷ words .cells
+    -- the ring's cells are those of the window
+    whole : take 64 cells ≡ cells
+    whole = take-all 64 cells (omega arith)
+
+    talker-window : (words : Silo) (a b since check : ℕ) (mark awaiting : Bool) → encTransmitter old (talker words a b since check mark awaiting)
+        ≡ parts ring cells words .0 ∷ since ∷ own ∷ low ∷ count ∷ (control - control / 2 ^ 3 % 2 * 2 ^ 3 + bit mark * 2 ^ 3)
+        ∷ (status % 2 ^ 15 / 2 ^ 4 * 2 ^ 4 + a + b * 2 ^ 2 + bit awaiting * 2 ^ 15) ∷ check ∷ serial ∷ parts ring cells words .1
     talker-window words a b since check mark awaiting =
         let extension : (bits control 4 2 * 2 ^ 16 + low % 2 ^ 15 * 2) / 2 ^ 16 ≡ bits control 4 2 = omega arith in
         let latched = k .latched in
@@ -104,47 +113,50 @@ module _ (held block own low count control status crc serial : ℕ) (silo : List
         let count15 = k .count15 in
         let e8 = k .going in
         same refl refl (omega arith) (omega arith) (omega arith) (rw extension (control-with control control16 (bit mark)))
-        (status-with status status16 a b (bit (bitAt status 6)) 0 (bit awaiting) ∙ rw (bit-on (status / 2 ^ 6)) (omega arith)) refl (omega arith) refl
+        (status-with status status16 a b (bit (bitAt status 6)) 0 (bit awaiting) ∙ rw (bit-on (status / 2 ^ 6)) (omega arith)) refl (omega arith) (ap (λ (l : List ℕ). parts ring l words .1) whole)
 
     abbrev words : Silo
     words = t .end .silo
 
-    -- the silo's cells are those of the window
-    cells : take 64 silo ≡ silo
-    cells = take-all 64 silo (omega arith)
+    pub oldest-is : oldest words ≡ getD cells (front ring) 0
+    oldest-is = ap (λ (l : List ℕ). oldest (siloOf 64 ring l)) whole ∙ oldest-there ring cells long (k .most) (k .some)
+
+    -- its parts without the oldest word, and as they were
+    left : parts ring cells (taken words) ≡ (withoutOldest ring, cells)
+    left = ap (λ (l : List ℕ). parts ring cells (taken (siloOf 64 ring l))) whole ∙ taken-parts ring cells long (k .most) (k .some)
+
+    kept : parts ring cells words ≡ (ring, cells)
+    kept = ap (λ (l : List ℕ). parts ring cells (siloOf 64 ring l)) whole ∙ same-parts ring cells long (k .most)
 
     -- its word was accepted
-    pub window-sent : block < 128 → status < 2 ^ 15 → encTransmitter (settled (counted (showing t 2 3)))
-        ≡ (held - 1) ∷ (block + 1) ∷ own ∷ low ∷ count ∷ (control - control / 2 ^ 3 % 2 * 2 ^ 3) ∷ (status / 2 ^ 4 * 2 ^ 4 + 14)
-        ∷ crcWord crc (getD silo 0 0) ∷ serial ∷ shifted silo
+    pub window-sent : block < 128 → status < 2 ^ 15 → encTransmitter old (settled (counted (showing t 2 3)))
+        ≡ withoutOldest ring ∷ (block + 1) ∷ own ∷ low ∷ count ∷ (control - control / 2 ^ 3 % 2 * 2 ^ 3) ∷ (status / 2 ^ 4 * 2 ^ 4 + 14)
+        ∷ crcWord crc (getD cells (front ring) 0) ∷ serial ∷ cells
     window-sent short free =
         let e15 : status / 2 ^ 15 % 2 ≡ 0 = omega arith in
-        let most = k .most in
         let is : settled (counted (showing t 2 3)) ≡ talker (taken words) 2 3 (min 128 block + 1) (crcWord (crc % 2 ^ 16) (oldest words)) false false =
         rw (no-error, k .going, e15) refl in
-        ap encTransmitter is
+        ap (encTransmitter old) is
         ∙ talker-window (taken words) 2 3 (min 128 block + 1) (crcWord (crc % 2 ^ 16) (oldest words)) false false
-        ∙ same (rw not-empty (omega arith)) (omega arith) refl refl refl (omega arith) (omega arith)
-        (rw (not-empty, cells) (ap (λ (n : ℕ). crcWord n (getD silo 0 0)) (omega arith))) refl (rw (not-empty, cells) refl)
+        ∙ same (ap (λ (p : ℕ × List ℕ). p .0) left) (omega arith) refl refl refl (omega arith) (omega arith)
+        (ap (λ (n : ℕ). crcWord n (oldest words)) (omega arith) ∙ ap (crcWord crc) oldest-is) refl (ap (λ (p : ℕ × List ℕ). p .1) left)
 
     -- its due CRC was taken
-    pub window-due : block ≡ 128 → status < 2 ^ 15 → encTransmitter (settled (showing (afterSending t Choice.DueCrc) 2 1))
-        ≡ held ∷ block ∷ own ∷ low ∷ count ∷ control ∷ (status / 2 ^ 4 * 2 ^ 4 + 6 + 2 ^ 15) ∷ crc ∷ serial ∷ silo
+    pub window-due : block ≡ 128 → status < 2 ^ 15 → encTransmitter old (settled (showing (afterSending t Choice.DueCrc) 2 1))
+        ≡ ring ∷ block ∷ own ∷ low ∷ count ∷ control ∷ (status / 2 ^ 4 * 2 ^ 4 + 6 + 2 ^ 15) ∷ crc ∷ serial ∷ cells
     window-due full free =
-        let most = k .most in
         let is : settled (showing (afterSending t Choice.DueCrc) 2 1) ≡ talker words 2 1 (min 128 block) (crc % 2 ^ 16) (bitAt control 3) true =
         rw (no-error, k .going, k .opened, busy (bitAt control 3) (bitAt control 13), busy (bitAt control 3) (bitAt control 13)) refl in
-        ap encTransmitter is
+        ap (encTransmitter old) is
         ∙ talker-window words 2 1 (min 128 block) (crc % 2 ^ 16) (bitAt control 3) true
-        ∙ same (omega arith) (omega arith) refl refl refl (rw (bit-on (control / 2 ^ 3)) (omega arith)) (omega arith) (omega arith) refl cells
+        ∙ same (ap (λ (p : ℕ × List ℕ). p .0) kept) (omega arith) refl refl refl (rw (bit-on (control / 2 ^ 3)) (omega arith)) (omega arith) (omega arith) refl (ap (λ (p : ℕ × List ℕ). p .1) kept)
 
     -- it was found good
-    pub window-passed : block ≡ 128 → 2 ^ 15 ≤ status → encTransmitter (settled (restarted (showing (afterSending t Choice.DueCrc) 2 3)))
-        ≡ held ∷ 0 ∷ own ∷ low ∷ count ∷ control ∷ (status % 2 ^ 15 / 2 ^ 4 * 2 ^ 4 + 14) ∷ 0 ∷ serial ∷ silo
+    pub window-passed : block ≡ 128 → 2 ^ 15 ≤ status → encTransmitter old (settled (restarted (showing (afterSending t Choice.DueCrc) 2 3)))
+        ≡ ring ∷ 0 ∷ own ∷ low ∷ count ∷ control ∷ (status % 2 ^ 15 / 2 ^ 4 * 2 ^ 4 + 14) ∷ 0 ∷ serial ∷ cells
     window-passed full waits =
-        let most = k .most in
         let is : settled (restarted (showing (afterSending t Choice.DueCrc) 2 3)) ≡ talker words 2 3 0 0 (bitAt control 3) false =
         rw (no-error, k .going, k .opened, busy (bitAt control 3) (bitAt control 13), busy (bitAt control 3) (bitAt control 13)) refl in
-        ap encTransmitter is
+        ap (encTransmitter old) is
         ∙ talker-window words 2 3 0 0 (bitAt control 3) false
-        ∙ same (omega arith) refl refl refl refl (rw (bit-on (control / 2 ^ 3)) (omega arith)) (omega arith) refl refl cells
+        ∙ same (ap (λ (p : ℕ × List ℕ). p .0) kept) refl refl refl refl (rw (bit-on (control / 2 ^ 3)) (omega arith)) (omega arith) refl refl (ap (λ (p : ℕ × List ℕ). p .1) kept)

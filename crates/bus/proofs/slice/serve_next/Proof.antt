@@ -3,11 +3,11 @@ use borrow.Author.Needs.{needs}
 use mathlib.Core.List.{List}
 use mathlib.Core.Path.{ap, _∙_}
 use Prim.Native.Nat.{ℕ}
-use Rattle.cells.specs.Fitted.{masterOf}
+use Rattle.cells.specs.Fitted.{masterOf, masterCells}
 use Rattle.cells.specs.laws.FittedLaws.{master-within}
 use Rattle.cells.specs.laws.FrameLaws.{in-range-kept}
-use Rattle.cells.specs.laws.PutLaws.{master-part}
-use Rattle.codec.specs.Masters.{encMaster}
+use Rattle.cells.specs.laws.PutLaws.{next-part}
+use Rattle.codec.specs.Masters.{encNext}
 use Rattle.master.specs.laws.Laws.{within-next, next-lt}
 use Rattle.master.specs.Section.{nextOf}
 use Rattle.bus.specs.Slice.{served}
@@ -21,7 +21,7 @@ serve-requires c κs =
     let m = masterOf s (start .args .unit) in
     let h = master-within _ _ (start .pre .1) in
     let e = c .before .before .before .take-next .ensures in (
-      rw (ap (λ (x : ℕ × List ℕ). x .1) e) (in-range-kept s _ (start .pre .1) 150 (encMaster (nextOf m .side)) (master-part _ (within-next m h)) ∙ start .pre .0),
+      rw (ap (λ (x : ℕ × List ℕ). x .1) e) (in-range-kept s _ (start .pre .1) 150 (encNext (masterCells s (start .args .unit)) (nextOf m .side)) (next-part s _ (start .pre .1) _ (within-next m h)) ∙ start .pre .0),
       rw (ap (λ (x : ℕ × List ℕ). x .0) e) (next-lt m h),
     )
 

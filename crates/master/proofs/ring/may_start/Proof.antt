@@ -15,6 +15,9 @@ returns c =
     let few : length (addressesIn (a .args .silo)) < 20 = omega (arith, length-addresses (a .args .silo) (a .pre), c .before .count .ensures) in
     rw (lt-leb 20 _ few)
 
+neighbours-differ-requires : tie.Need-neighbours-differ-requires
+neighbours-differ-requires c κs = let start = c .before .before in (omega (arith, c .before .count .ensures), start .pre)
+
 returns-2 : tie.Need-returns-2
 returns-2 c =
     let a = c .before .before .before in
@@ -24,4 +27,4 @@ returns-2 c =
     rw (le-leb 20 _ least, le-leb _ 50 most) (c .neighbours-differ .ensures)
 
 pub may-start-spec : {M : Type 1} → statement M
-may-start-spec = tie.close (tie.spec (λ c. search needs) returns (λ c. search needs) returns-2)
+may-start-spec = tie.close (tie.spec (λ c. search needs) returns neighbours-differ-requires returns-2)

@@ -23,5 +23,11 @@ returns-2 c =
     c .before .before .go-round .ensures
     ∙ round-in-place (start .args .cells .now) (start .args .unit) (start .pre .0) (start .pre .1) (sym (c .before .before .before .before .before .bit-at .ensures) ∙ c .before .before .before .before .if1 .left)
 
+go-round-requires : tie.Need-go-round-requires
+go-round-requires c κs =
+    let start = c .before .before .before .before .before .before in
+    let h = plain-there (start .args .cells .now) (start .args .unit) (start .pre .0) (start .pre .1) in
+    (search needs, (h .few, h .near))
+
 pub turn-at-spec : {M : Type 1} → statement M
-turn-at-spec = tie.close (tie.spec (λ c. search needs) (λ c. search needs) (λ c. search needs) (λ c. search needs) (λ c. search needs) (λ c. search needs) (λ c. search needs) (λ c. search needs) (λ c. search needs) (λ c. search needs) count-at-requires (λ c. search needs) returns (λ c. search needs) (λ c. search needs) returns-2)
+turn-at-spec = tie.close (tie.spec (λ c. search needs) (λ c. search needs) (λ c. search needs) (λ c. search needs) (λ c. search needs) (λ c. search needs) (λ c. search needs) (λ c. search needs) (λ c. search needs) (λ c. search needs) count-at-requires (λ c. search needs) returns go-round-requires (λ c. search needs) returns-2)

@@ -1,5 +1,4 @@
 -- What the test says.
-use borrow.Author.Needs.{needs}
 use Rattle.plain_moves.specs.laws.PlainMoves.{plain-says}
 use Rattle.plain_moves.proofs.moving.is_plain.Statement.{statement}
 use Rattle.plain_moves.proofs.moving.is_plain.Tie as tie

@@ -31,7 +31,7 @@ returns-4 c =
     let there = rw (named .ensures, found .before .memory-length .ensures) at (found .if4 .taken) in
     rw (c .before .before .put-word .ensures, named .ensures)
     (ap (λ (p : Move × List ℕ). (p .0, splice (a .cells .now) (transmitterPlace (a .unit)) (p .1)))
-    (sym (out-plain (a .cells .now) (transmitterPlace (a .unit)) (omega arith) (λ i. omega (arith, tested .before .before .before .before .before .before .before .before .before .slice-known .given i)) (a .memory .now) (memoryLength (a .cells .now) (a .unit)) there p
+    (sym (out-plain (a .cells .now) (transmitterPlace (a .unit)) (omega arith) (λ i. omega (arith, tested .before .before .before .before .before .before .before .before .before .slice-known .given i)) (a .memory .now) (memoryLength (a .cells .now) (a .unit)) (omega (arith, there)) p
     (found .before .before .before .before .before .if2 .left) (omega (arith, found .before .before .before .before .if3 .left)) (start .pre .2))))
 
 pub load-plain-spec : {M : Type 1} → statement M

@@ -32,8 +32,8 @@ returns-3 c =
     let there = rw (named .ensures, found .before .memory-length .ensures) at (found .if3 .taken) in
     rw (gave .0, gave .1, named .ensures)
     (ap (λ (l : Move × List ℕ × List ℕ). (l .0, splice (a .cells .now) (receiverPlace (a .unit)) (l .1), l .2))
-    (sym (in-plain (a .cells .now) (receiverPlace (a .unit)) (omega arith) (λ i. omega (arith, tested .before .before .before .before .before .before .before .before .before .slice-known .given i)) (a .memory .now) (memoryLength (a .cells .now) (a .unit)) there p
-    (found .before .before .before .before .if2 .left) (start .pre .2))))
+    (sym (in-plain (a .cells .now) (receiverPlace (a .unit)) (omega arith) (λ i. omega (arith, tested .before .before .before .before .before .before .before .before .before .slice-known .given i)) (a .memory .now) (memoryLength (a .cells .now) (a .unit)) (omega (arith, there)) p
+    (omega (arith, found .before .before .before .before .if2 .left)) (start .pre .2))))
 
 pub store-plain-spec : {M : Type 1} → statement M
 store-plain-spec = tie.close (tie.spec (λ c. search needs) (λ c. search needs) (λ c. search needs) (λ c. search needs) (λ c. search needs) (λ c. search needs) (λ c. search needs) (λ c. search needs) (λ c. search needs) (λ c. search needs) (λ c. search needs) (λ c. search needs) (λ c. search needs) (λ c. search needs) (λ c. search needs) (λ c. search needs) (λ c. search needs) (λ c. search needs) (λ c. search needs) (λ c. search needs) (λ c. search needs) (λ c. search needs) (λ c. search needs) (λ c. search needs) (λ c. search needs) (λ c. search needs) (λ c. search needs) (λ c. search needs) take-word-requires (λ c. search needs) (λ c. search needs) (λ c. search needs) (λ c. search needs) returns-3 (λ c. search needs) (λ c. search needs))

@@ -1,0 +1,9 @@
+pub mod Answers
+pub mod Example
+pub mod Layouts
+pub mod Promise
+pub mod Runs
+pub mod Same
+pub mod Shifting
+pub mod Statement
+pub mod laws
