@@ -28,14 +28,10 @@ static inline unsigned next_address(const uint16_t *section)
     return bits_of(section[SECTION_WORD], 10, 1) ? bits_of(section[SECTION_WORD], 0, 5) : section[ADDRESSES + section[RING] % 64] % 32;
 }
 
-/* The first unit with an address in its own cell k (0 its transmitter's, 1 its receiver's); the count of units where there is none. */
-static inline size_t unit_with(const uint16_t *cells, size_t k, unsigned address)
+/* The unit that the index has for an address, of transmitters or of receivers; the count of units where there is none. */
+static inline size_t unit_with(const uint16_t *cells, unsigned side, unsigned address)
 {
-    size_t unit = 0;
-
-    while (unit < cells[UNITS] && at_most(cells[block_at(unit) + k], 30) + 1 != address)
-        unit++;
-    return unit;
+    return at_most(cells[entry_at(side, address)], cells[UNITS]);
 }
 
 /* ---- whether its transmitter acts, and whom it addresses */
@@ -159,13 +155,13 @@ static inline struct way slice_way(const uint16_t *cells)
     if (!turns(section))
         return (struct way){ false, 0 };
     address = next_address(section);
-    unit = unit_with(cells, 0, address);
+    unit = unit_with(cells, PCL_TRANSMITTER, address);
     if (unit == cells[UNITS])
         return plain_answer(address, 0, 0);
     t = cells + block_at(unit) + TRANSMITTER;
     if (!acts(t))
         return plain_answer(address, 0, 0);
-    other = unit_with(cells, 1, addressed(t));
+    other = unit_with(cells, PCL_RECEIVER, addressed(t));
     if (other == cells[UNITS])
         return (struct way){ false, 0 };
     b = carried(t, cells + block_at(other) + RECEIVER, address);

@@ -1,8 +1,9 @@
 /* pcl.h - the PCL11-B link for C and C++: up to sixteen interfaces on one bus.
  *
  * A link is one row of 16-bit cells that the caller owns. The library has no
- * other state: no globals, no allocation, no input or output. All cells zero is
- * the unfitted link; pcl_fit makes a link out of cells that hold anything.
+ * other state: no globals, no allocation, no input or output. All cells zero,
+ * PCL_CELLS(0) of them or more, is the unfitted link; pcl_fit makes a link out of
+ * cells that hold anything.
  *
  * What is lent. Cells, memories and set-ups are lent for one call and are the
  * caller's again when it returns. A pointer is not null and is aligned for its
@@ -12,8 +13,8 @@
  * calls on one link come one after the other; calls on different links may run
  * at the same time. Between calls the cells may be copied, stored and loaded
  * again, in another process too: docs/STATE.md says what each of them holds.
- * Only the first two cells, the header, can be out of range. Whatever the others
- * hold has a meaning. One call can answer PCL_BAD_ROOM for it: pcl_move, which
+ * Only the first two cells can be out of range. Whatever the others hold has a
+ * meaning. One call can answer PCL_BAD_ROOM for it: pcl_move, which
  * asks as much memory as the cells of its unit say.
  *
  * What comes back. Every call takes every argument, ends, and answers a number
@@ -88,11 +89,11 @@ enum { PCL_TRANSMITTER = 0, PCL_RECEIVER = 1 };
  * cell comes to mean something else. The cells do not hold it, and no call tells
  * cells of another layout from these: a host that saves a link writes PCL_LAYOUT
  * beside the cells, and lends them again only where it reads the same number. */
-#define PCL_LAYOUT 2
+#define PCL_LAYOUT 3
 
 /* Room, in elements: the cells of a link, the numbers of a set-up. */
 #define PCL_UNITS_MOST 16
-#define PCL_CELLS(units) (2 + 202 * (size_t)(units))
+#define PCL_CELLS(units) (66 + 202 * (size_t)(units))
 #define PCL_CELLS_MOST PCL_CELLS(PCL_UNITS_MOST)
 #define PCL_SETUP(units) (4 * (size_t)(units))
 #define PCL_MEMORY_MOST 131072

@@ -69,7 +69,7 @@ static void look_at_cells(const char *call, uint32_t number)
         return;
     for (uint32_t i = 0; i < FIRST_BLOCK; i++)
         if (got[i] != wanted[i])
-            differ(call, i == UNITS ? "the count of units" : "who has MASTER", got[i], wanted[i]);
+            differ(call, i == UNITS ? "the count of units" : i == MASTER ? "who has MASTER" : "the index", got[i], wanted[i]);
     for (uint32_t i = FIRST_BLOCK; i < PCL_CELLS_MOST; i++)
         must_agree(call, "cell", (i - FIRST_BLOCK) % BLOCK, (i - FIRST_BLOCK) / BLOCK, got[i], wanted[i]);
 }
@@ -90,6 +90,9 @@ static void look_at_damaged_cells(const char *call)
     of_cells(cells, &read);
     as_cells(&read, normal);
     lay_all_over(cells_before, normal, laid == TURNED);
+    for (uint32_t i = INDEX; i < FIRST_BLOCK; i++)
+        if (cells[i] != cells_before[i])
+            differ(call, "a cell of the index, left alone", cells[i], cells_before[i]);
     for (uint32_t unit = 0; unit < l.units; unit++) {
         size_t place = block_at(unit);
 

@@ -1,4 +1,4 @@
-/* damage.h - a unit whose cells hold anything, on both libraries. */
+/* damage.h - a unit whose cells hold anything, or an index that does, on both libraries. */
 #ifndef DAMAGE_H
 #define DAMAGE_H
 
@@ -28,6 +28,16 @@ static void damage_unit(uint32_t unit, uint32_t least)
 
     for (uint32_t i = first < least ? least : first; i < first + count && i < BLOCK; i++)
         block[i] = damaged(block[i]);
+    read_damage();
+}
+
+/* One entry of the index, or some in a row: units that there are, the one past them, and anything. */
+static inline void damage_index(void)
+{
+    uint32_t first = INDEX + below(FIRST_BLOCK - INDEX), count = once_in(2) ? 1 : 1 + below(FIRST_BLOCK - INDEX);
+
+    for (uint32_t i = first; i < first + count && i < FIRST_BLOCK; i++)
+        cells[i] = once_in(3) ? damaged(cells[i]) : (uint16_t)below(l.units + 1u);
     read_damage();
 }
 

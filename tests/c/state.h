@@ -8,7 +8,7 @@
 #include "second.h"
 
 enum {
-    UNITS = 0, MASTER = 1, FIRST_BLOCK = 2, BLOCK = 202,                /* cells of a link */
+    UNITS = 0, MASTER = 1, INDEX = 2, FIRST_BLOCK = 66, BLOCK = 202,    /* cells of a link */
     TRANSMITTER = 4, RECEIVER = 77, SECTION = 150,                      /* .. of a block */
     RING = 0, WORDS = 1, LATCHED = 2, TRUNCATED = 2, ADDRESS = 3, COUNT_LEFT = 4,
     COMMAND = 5, STATUS = 6, CRC = 7, SERIAL = 8, SILO = 9,             /* .. of a side */
@@ -18,6 +18,9 @@ enum {
 _Static_assert(PCL_CELLS_MOST == FIRST_BLOCK + BLOCK * PCL_UNITS_MOST, "pcl.h asks for other cells than these");
 
 static inline size_t block_at(size_t unit) { return FIRST_BLOCK + BLOCK * unit; }
+
+/* The index's entry of an address, of transmitters or of receivers. */
+static inline size_t entry_at(unsigned side, unsigned address) { return INDEX + SECOND_ADDRESSES * side + address; }
 
 /* Number 9 but for a memory: the header, and the room. */
 static inline bool in_range(const uint16_t *cells, size_t length)
@@ -62,6 +65,16 @@ static inline void unit_as_cells(const struct second_unit *u, uint16_t *c)
         c[SECTION + ADDRESSES + i] = m->silo.address[(m->silo.first + i) % SECOND_RING];
 }
 
+/* One of the second library's two tables, in which 0 is nobody, as half of the index. */
+static inline void table_as_cells(const uint8_t *table, unsigned side, uint16_t *cells)
+{
+    for (unsigned address = 0; address < SECOND_ADDRESSES; address++) {
+        cells[entry_at(side, address)] = table[address] ? table[address] - 1u : PCL_UNITS_MOST;
+        if (address && table[address])
+            cells[block_at(table[address] - 1u) + side] = (uint16_t)(address - 1);
+    }
+}
+
 /* The PCL_CELLS(units) cells that hold what the second library's state holds, as after a fit: each silo's words from its first cell on,
  * and zeros behind them. */
 static inline void as_cells(const struct second_link *l, uint16_t *cells)
@@ -71,11 +84,9 @@ static inline void as_cells(const struct second_link *l, uint16_t *cells)
     cells[MASTER] = l->master;
     for (size_t unit = 0; unit < l->units; unit++)
         unit_as_cells(&l->unit[unit], cells + block_at(unit));
-    for (uint16_t address = 1; address < SECOND_ADDRESSES; address++) {
-        if (l->transmitter_at[address])
-            cells[block_at(l->transmitter_at[address] - 1u)] = address - 1;
-        if (l->receiver_at[address])
-            cells[block_at(l->receiver_at[address] - 1u) + 1] = address - 1;
+    if (l->units) {                                         /* the unfitted state has an index of zeros */
+        table_as_cells(l->transmitter_at, PCL_TRANSMITTER, cells);
+        table_as_cells(l->receiver_at, PCL_RECEIVER, cells);
     }
 }
 
@@ -168,18 +179,28 @@ static inline void master_of_cells(const uint16_t *c, struct second_master *m)
     m->now_master = word >> 12 & 1;
 }
 
+/* An entry that is no fitted unit's number is nobody. The addresses in the units' own cells are not looked at. */
+static inline void table_of_cells(const uint16_t *cells, unsigned side, uint8_t *table)
+{
+    for (unsigned address = 0; address < SECOND_ADDRESSES; address++) {
+        uint16_t unit = cells[entry_at(side, address)];
+
+        table[address] = unit < cells[UNITS] ? (uint8_t)(unit + 1) : 0;
+    }
+}
+
 /* What the cells hold, whatever it is; the header and the room are in range. */
 static inline void of_cells(const uint16_t *cells, struct second_link *l)
 {
     memset(l, 0, sizeof *l);
     l->units = (uint8_t)cells[UNITS];
     l->master = (uint8_t)cells[MASTER];
-    for (size_t unit = l->units; unit-- > 0;) {             /* of two units with one address the lower is found */
+    table_of_cells(cells, PCL_TRANSMITTER, l->transmitter_at);
+    table_of_cells(cells, PCL_RECEIVER, l->receiver_at);
+    for (size_t unit = 0; unit < l->units; unit++) {
         const uint16_t *c = cells + block_at(unit);
         struct second_unit *u = &l->unit[unit];
 
-        l->transmitter_at[at_most(c[0], 30) + 1] = (uint8_t)(unit + 1);
-        l->receiver_at[at_most(c[1], 30) + 1] = (uint8_t)(unit + 1);
         u->memory_length = ((uint32_t)(c[2] % 2) << 16 | c[3]) + 1;
         transmitter_of_cells(c + TRANSMITTER, &u->transmitter);
         receiver_of_cells(c + RECEIVER, &u->receiver);

@@ -74,7 +74,10 @@ static void between_scenes(void)
         try_refused();
     must(!memcmp(memory, kept, sizeof kept), "number 9 changed a memory");
     for (unsigned i = 0; i < 20 && l.units; i++) {
-        damage_unit(fitted_unit(), 0);
+        if (once_in(3))
+            damage_index();
+        else
+            damage_unit(fitted_unit(), 0);
         damages++;
         look_everywhere("cells that were damaged");
         wild_calls(100);
@@ -317,18 +320,25 @@ static void serials_that_differ(void)
          "not T's next serial at both ends");
 }
 
+/* The transmitter address of one unit is another's now, which has its own no longer. */
+static void take_address(uint32_t of, uint32_t by)
+{
+    cells[entry_at(PCL_TRANSMITTER, by + 1)] = PCL_UNITS_MOST;
+    cells[entry_at(PCL_TRANSMITTER, of + 1)] = (uint16_t)by;
+    read_damage();
+}
+
 /* "That same transmitter" is told by its address: another unit that has come to have it. */
 static void another_with_its_address(void)
 {
-    *open_channel(OF_T, 0) = 30;
-    cells[block_at(OF_ANOTHER)] = OF_T;
-    read_damage();
+    open_channel(OF_T, 0);
+    take_address(OF_T, OF_ANOTHER);
     call_write(OF_ANOTHER, PCL_TSDB, any_word());
     call_write(OF_ANOTHER, PCL_TCR, PCL_TCR_DESTINATION(receiver_of(OF_R)) | BOTH_COMMANDS);
     must(got(served(OF_T, 0, 0), 2, 0) && (the_r()->side.status & PCL_RSR_TXM_ERR) && !the_r()->side.open,
          "not the same transmitter");
-    *open_channel(OF_T, 0) = OF_ANOTHER;                    /* and T with another's address, which hides that one */
-    read_damage();
+    open_channel(OF_T, 0);                                  /* and T with another's address */
+    take_address(OF_ANOTHER, OF_T);
     must(got(served(OF_ANOTHER, 0, 0), 2, 0) && the_r()->side.open && (the_t()->side.status & PCL_TSR_TXM_ERR),
          "the same transmitter");
 }

@@ -9,7 +9,7 @@ static_assert(PCL_TCR_DESTINATION(1) == 0400, "the lowest destination");
 static_assert(PCL_TCR_DESTINATION(31) == 017400, "the highest destination");
 static_assert(PCL_TCR_DESTINATION(32) == 0, "32 is no destination, and does not set SND WD");
 static_assert(PCL_TCR_DESTINATION(-1) == 017400, "five bits of any number");
-static_assert(PCL_CELLS(0) == 2 && PCL_CELLS(1) == 204 && PCL_CELLS_MOST == PCL_CELLS(16) && PCL_CELLS_MOST == 3234, "cells");
+static_assert(PCL_CELLS(0) == 66 && PCL_CELLS(1) == 268 && PCL_CELLS_MOST == PCL_CELLS(16) && PCL_CELLS_MOST == 3298, "cells");
 static_assert(PCL_SETUP(0) == 0 && PCL_SETUP(16) == 64, "numbers of a set-up");
 static_assert(PCL_LAYOUT >= 1 && PCL_VERSION >= 100, "versions");
 static_assert(PCL_UNIBUS_RECEIVER - PCL_UNIBUS_TRANSMITTER == PCL_RCR && PCL_RCR == +PCL_UNIBUS_ROOM, "the manual's places");

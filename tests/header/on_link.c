@@ -251,8 +251,8 @@ static uint64_t sum_of_cells(void)
  * number and the sum here with it. */
 static void check_layout(void)
 {
-    const int layout = 2;
-    const uint64_t stored = 0xCCB0C9C2EE9E1398, sum = sum_of_cells();
+    const int layout = 3;
+    const uint64_t stored = 0x87635200298BB170, sum = sum_of_cells();
 
     expect("PCL_LAYOUT", 0, PCL_LAYOUT, layout);
     if (sum != stored)

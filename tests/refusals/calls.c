@@ -105,15 +105,35 @@ static void cells_hold_anything(uint32_t units, bool sending)
             }
 }
 
+/* And one entry of the index: at most it is another's slice. */
+static void index_holds_anything(uint32_t units, bool sending)
+{
+    static const uint16_t patterns[] = { 0, 1, 15, 16, 17, 31, 0x7FFF, 0x8000, 0xFFFF };
+
+    for (uint32_t i = INDEX; i < FIRST_BLOCK; i++)
+        for (size_t p = 0; p < sizeof patterns / sizeof patterns[0]; p++) {
+            uint16_t kept = cells[i];
+
+            cells[i] = patterns[p];
+            keep();
+            leave_all(units - 1);
+            if (!sending)
+                idle_slice(units);
+            cells[i] = kept;
+        }
+}
+
 static void damaged_units(uint32_t units)
 {
     if (units == 0)
         return;
     state_of(units);
     cells_hold_anything(units, true);
+    index_holds_anything(units, true);
     IS(fit(good(units), PCL_SETUP(units)), 0);
     IS(wb(units - 1, PCL_TMMR + 1, (PCL_TMMR_MASTER | PCL_TMMR_AUT_ADR) >> 8), 0);
     cells_hold_anything(units, false);
+    index_holds_anything(units, false);
 }
 
 /* 9: the header; and the room, which is looked at before anything in it. */

@@ -13,6 +13,8 @@ use Rattle.cells.specs.Fitted.{unitFitted}
 use Rattle.codec.specs.Rings.{inOrder, laidFrom}
 use Rattle.board.specs.declared.answers.ReceiveCall.{ReceiveCall}
 use Rattle.cells.specs.Fitted.{transmitterOf}
+use Rattle.cells.specs.Index.{row}
+use Rattle.promise.specs.laws.Rows.{rows-say}
 use Rattle.cells.specs.Ranges.{inRange}
 use Rattle.cells.specs.Search.{firstOf}
 use Rattle.fitting.specs.Fit.{unitsFitted}
@@ -40,7 +42,7 @@ abbrev words : List ℕ
 words = 6 ∷ 1 ∷ 3 ∷ 7 ∷ 65535 ∷ 0 ∷ []
 
 abbrev blank : World
-blank = record { cells = replicate 204 0; memory = λ k. replicate 80 9 }
+blank = record { cells = replicate 268 0; memory = λ k. replicate 80 9 }
 
 -- one unit, its addresses 1 and 1, its switch 2, with 80 words of memory; the words from word 1 on; MASTER and AUT ADR; a load of six words
 -- from word 1 on, ST TXM, SND WD and TX NPR to receiver 1; one of them is moved; a load of six words to word 70, RCV DAT, RCV WD and
@@ -69,7 +71,12 @@ abbrev start : World
 start =
     record {
       cells =
-          (1 ∷ 1 ∷ 0 ∷ 0 ∷ 0 ∷ 79 ∷ [])
+          (1 ∷ 1 ∷ [])
+          ++ (16 ∷ 0 ∷ [])
+          ++ replicate 30 16
+          ++ (16 ∷ 0 ∷ [])
+          ++ replicate 30 16
+          ++ (0 ∷ 0 ∷ 0 ∷ 79 ∷ [])
           ++ (64 ∷ 0 ∷ 0 ∷ 2 ∷ 32763 ∷ 24835 ∷ 0 ∷ 0 ∷ 0 ∷ 6 ∷ [])
           ++ replicate 63 0
           ++ (0 ∷ 0 ∷ 0 ∷ 70 ∷ 32762 ∷ 24579 ∷ 0 ∷ 0 ∷ 0 ∷ [])
@@ -80,19 +87,20 @@ start =
     }
 
 set-up : run setting blank .cells ≡ start .cells
-unfolding unitFitted unitsFitted takenBy unitsGood firstOf inRange inOrder laidFrom
+unfolding unitFitted unitsFitted takenBy unitsGood firstOf inRange inOrder laidFrom row
 set-up = refl
 
 set-up-memory : run setting blank .memory 0 ≡ start .memory 0
-unfolding unitFitted unitsFitted takenBy unitsGood firstOf inRange inOrder laidFrom
+unfolding unitFitted unitsFitted takenBy unitsGood firstOf inRange inOrder laidFrom row
 set-up-memory = refl
 
 -- ---- the next slice opens a message of six words
 
 opening : Opening start
-unfolding firstOf inRange ones inOrder laidFrom
+unfolding firstOf inRange ones inOrder laidFrom row
 opening =
     record {
+      indexed = rows-say (start .cells) refl refl;
       answered = refl;
       acknowledged = refl;
       conditions =

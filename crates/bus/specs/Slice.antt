@@ -6,8 +6,8 @@ use Prim.Native.Nat.{ℕ, _-_}
 use lib.Dec.{eqb, ltb}
 use Rattle.answering.specs.Choice.{openWithAnother}
 use Rattle.cells.specs.Fitted.{transmitterOf, receiverOf, masterOf, putTransmitter, putReceiver, putNext}
-use Rattle.cells.specs.Layout.{countIn, holderIn}
-use Rattle.cells.specs.Search.{firstTransmitter, firstReceiver}
+use Rattle.cells.specs.Index.{transmitterWith, receiverWith}
+use Rattle.cells.specs.Layout.{holderIn}
 use Rattle.laws.specs.Pick.{pick}
 use Rattle.master.specs.Section.{nextOf}
 use Rattle.master.specs.declared.section.Next.{Next}
@@ -39,16 +39,16 @@ heardBy cells unit other from mask parity =
     pick (openWithAnother (receiverOf cells other) from) (unheard cells unit)
     (putPair cells unit other (exchanged (transmitterOf cells unit) (receiverOf cells other) from mask parity))
 
--- R is that of the first unit with the receiver address; 16 where there is none. A closed T's destination is that of TCR, an open one's
+-- R is that of the unit that the index has for the receiver address; 16 where there is none. A closed T's destination is that of TCR, an open one's
 -- the latched one (reading 29).
 abbrev pub heardOr : List ℕ → ℕ → ℕ → ℕ → ℕ → Bool → Codes × List ℕ
 heardOr cells unit other from mask parity = pick (ltb other 16) (heardBy cells unit other from mask parity) (unheard cells unit)
 
 abbrev pub actingSlice : List ℕ → ℕ → ℕ → ℕ → Bool → Codes × List ℕ
 actingSlice cells unit from mask parity =
-    heardOr cells unit (firstReceiver cells (countIn cells) (destinationOf (transmitterOf cells unit))) from mask parity
+    heardOr cells unit (receiverWith cells (destinationOf (transmitterOf cells unit))) from mask parity
 
--- ---- "T is the transmitter addressed (or none: idle, A and B 00, nothing else)." An address that no transmitter has, 0 too, is an idle
+-- ---- "T is the transmitter addressed (or none: idle, A and B 00, nothing else)." An address whose entry names no unit, from a fit on 0 too, is an idle
 -- slice with that address (reading 19).
 
 -- "T acts if ..; else idle"
@@ -59,12 +59,12 @@ sliceOf cells unit from mask parity =
 abbrev pub given : ℕ → Codes × List ℕ → Given × List ℕ
 given address p = (record { address = address; codes = p .0 }, p .1)
 
--- T is that of the first unit with the transmitter address; 16 where there is none
+-- T is that of the unit that the index has for the transmitter address; 16 where there is none
 abbrev pub servedOr : List ℕ → ℕ → ℕ → ℕ → Bool → Given × List ℕ
 servedOr cells unit address mask parity = pick (ltb unit 16) (given address (sliceOf cells unit address mask parity)) (given address (noCodes, cells))
 
 abbrev pub served : List ℕ → ℕ → ℕ → Bool → Given × List ℕ
-served cells address mask parity = servedOr cells (firstTransmitter cells (countIn cells) address) address mask parity
+served cells address mask parity = servedOr cells (transmitterWith cells address) address mask parity
 
 -- ---- the master's next address, "counter mode" or "each slice takes the oldest address and returns it to the end", and its slice: only
 -- the master's counter or silo steps (reading 20)

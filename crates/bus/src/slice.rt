@@ -1,13 +1,13 @@
 // A slice: whose it is, whom its transmitter addresses, and what it leaves.
 use crate::masterless::pass_masterless;
 use answering::choice::is_open_with_another;
+use cells::index::receiver_with;
+use cells::index::transmitter_with;
 use cells::layout::BLOCK;
 use cells::layout::HEADER;
 use cells::layout::RECEIVER;
 use cells::layout::TRANSMITTER;
 use cells::layout::UNITS;
-use cells::search::find_receiver;
-use cells::search::find_transmitter;
 use cells::sides::master_of;
 use cells::sides::put_next;
 use cells::sides::put_receiver;
@@ -128,7 +128,7 @@ fn serve_acting(cells: &mut [u16], unit: usize, from: u16, mask: u16, parity: bo
     requires { ⌜ Fitted (now cells) unit × (from < 32) ⌝ }
     ensures { λ r. ⌜ _≡_ {A = Codes × List ℕ} (r, now (cells .exit)) (actingSlice (now (cells .entry)) unit from mask parity) ⌝ }
 {
-    let other = find_receiver(cells, destination_at(cells, unit));
+    let other = receiver_with(cells, destination_at(cells, unit));
     if other < UNITS {
         return hear(cells, unit, other, from, mask, parity);
     }
@@ -157,7 +157,7 @@ fn serve(cells: &mut [u16], address: u16, mask: u16, parity: bool) -> Given
     requires { ⌜ address < 32 ⌝ }
     ensures { λ r. ⌜ _≡_ {A = Given × List ℕ} (r, now (cells .exit)) (served (now (cells .entry)) address mask parity) ⌝ }
 {
-    let unit = find_transmitter(cells, address);
+    let unit = transmitter_with(cells, address);
     if unit < UNITS {
         return Given {
             address,

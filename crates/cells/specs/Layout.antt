@@ -1,4 +1,4 @@
--- Where everything lies in the lent cells: a header of 2 cells, and a block of 202 for each fitted unit. docs/STATE.md has the table.
+-- Where everything lies in the lent cells: a header of 66 cells, and a block of 202 for each fitted unit. docs/STATE.md has the table.
 -- Assumes nothing.
 use mathlib.Core.List.{List, [], _∷_}
 use Prim.Native.Nat.{ℕ, _+_, _-_, _*_, _/_, _%_, _^_, min}
@@ -26,10 +26,20 @@ holderIn cells = cell cells HOLDER
 abbrev pub putHolder : List ℕ → ℕ → List ℕ
 putHolder cells holder = set cells HOLDER holder
 
+-- the index's entry for the number a, which has 5 bits: as a transmitter address where k is 0, as a receiver address where it is 1
+abbrev pub INDEX : ℕ
+INDEX = 2
+
+abbrev pub entryPlace : ℕ → ℕ → ℕ
+entryPlace k a = INDEX + k * 32 + a % 32
+
+abbrev pub entryIn : List ℕ → ℕ → ℕ → ℕ
+entryIn cells k a = cell cells (entryPlace k a)
+
 -- ---- a unit's block: 4 cells of its own, 73 of its transmitter, 73 of its receiver, 52 of its master section
 
 abbrev pub unitPlace : ℕ → ℕ
-unitPlace u = 2 + u * 202
+unitPlace u = 66 + u * 202
 
 abbrev pub transmitterPlace : ℕ → ℕ
 transmitterPlace u = unitPlace u + 4

@@ -1,4 +1,5 @@
 pub mod Fitted
+pub mod Index
 pub mod Layout
 pub mod Ranges
 pub mod Search

@@ -12,4 +12,4 @@ use Rattle.cells.specs.Layout.{countIn, holderIn, unitPlace}
 -- one of them.
 unfoldable pub inRange : List ℕ → Bool
 inRange cells =
-    leb 2 (length cells) && leb (countIn cells) 16 && leb (unitPlace (countIn cells)) (length cells) && leb (holderIn cells) (countIn cells)
+    leb 66 (length cells) && leb (countIn cells) 16 && leb (unitPlace (countIn cells)) (length cells) && leb (holderIn cells) (countIn cells)

@@ -1,4 +1,5 @@
--- The units by their addresses, and by SEC. Only here is a unit found.
+-- The units by their addresses, and by SEC: a look through all of them. A slice finds its units by the index (`Index`), which from a
+-- fit on says the same.
 -- Assumes nothing.
 use mathlib.Core.List.{List}
 use Prim.Native.Nat.{ℕ, zero, suc}

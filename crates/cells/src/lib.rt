@@ -1,4 +1,5 @@
-// Where the units lie in the lent cells, when a lent state is in range, a unit's sides, and the search for a unit.
+// Where the units lie in the lent cells, when a lent state is in range, a unit's sides, the index of addresses, and the search for a unit.
+pub mod index;
 pub mod layout;
 pub mod ranges;
 pub mod search;

@@ -1,6 +1,4 @@
-// A unit by its address, and by SEC. The answer is what `break` yields.
-use crate::layout::RECEIVES_AS;
-use crate::layout::SENDS_AS;
+// A unit by its address, and by SEC: the units are looked through. The answer is what `break` yields.
 use crate::units::address_in;
 use crate::units::count;
 use crate::units::secondary_in;
@@ -9,7 +7,7 @@ ghost use mathlib.Core.Path.{_≡_};
 ghost use Rattle.cells.specs.Fitted.{Fitted};
 ghost use Rattle.cells.specs.Layout.{countIn};
 ghost use Rattle.cells.specs.Ranges.{inRange};
-ghost use Rattle.cells.specs.Search.{numberIn, firstOf, firstTransmitter, firstReceiver, firstSecondary};
+ghost use Rattle.cells.specs.Search.{numberIn, firstOf, firstSecondary};
 
 // What a search goes by: 0 the transmitter address, 1 the receiver address, 2 SEC.
 fn number_in(cells: &[u16], k: usize, u: usize) -> usize
@@ -23,7 +21,7 @@ fn number_in(cells: &[u16], k: usize, u: usize) -> usize
 }
 
 // The first unit whose number k is the one wanted; 16 where there is none.
-fn find(cells: &[u16], k: usize, wanted: usize) -> usize
+pub fn find(cells: &[u16], k: usize, wanted: usize) -> usize
     requires { ⌜ inRange (now cells) ≡ true ⌝ }
     ensures { λ r. ⌜ r ≡ firstOf (numberIn (now (cells .entry)) k) wanted (countIn (now (cells .entry))) 0 ⌝ }
 {
@@ -39,20 +37,6 @@ fn find(cells: &[u16], k: usize, wanted: usize) -> usize
         u += 1;
     };
     found
-}
-
-pub fn find_transmitter(cells: &[u16], address: u16) -> usize
-    requires { ⌜ inRange (now cells) ≡ true ⌝ }
-    ensures { λ r. ⌜ r ≡ firstTransmitter (now (cells .entry)) (countIn (now (cells .entry))) address ⌝ }
-{
-    find(cells, SENDS_AS, address as usize)
-}
-
-pub fn find_receiver(cells: &[u16], address: u16) -> usize
-    requires { ⌜ inRange (now cells) ≡ true ⌝ }
-    ensures { λ r. ⌜ r ≡ firstReceiver (now (cells .entry)) (countIn (now (cells .entry))) address ⌝ }
-{
-    find(cells, RECEIVES_AS, address as usize)
 }
 
 pub fn find_secondary(cells: &[u16]) -> usize

@@ -19,7 +19,7 @@ ghost use Rattle.cells.specs.Fitted.{Fitted, blank};
 ghost use Rattle.cells.specs.Layout.{countIn, holderIn, putHolder, addressIn, memoryLength, secondaryIn, encUnit};
 
 // A cell as a wide number, for sums.
-fn cell_at(cells: &[u16], i: usize) -> usize
+pub fn cell_at(cells: &[u16], i: usize) -> usize
     requires { ⌜ i < length (now cells) ⌝ }
     ensures { λ r. ⌜ (r ≡ cell (now (cells .entry)) i) × (r < 65536) ⌝ }
 {
@@ -28,7 +28,7 @@ fn cell_at(cells: &[u16], i: usize) -> usize
 
 // The count of units.
 pub fn count(cells: &[u16]) -> usize
-    requires { ⌜ 2 ≤ length (now cells) ⌝ }
+    requires { ⌜ 66 ≤ length (now cells) ⌝ }
     ensures { λ r. ⌜ r ≡ countIn (now (cells .entry)) ⌝ }
 {
     cell_at(cells, COUNT)
@@ -36,14 +36,14 @@ pub fn count(cells: &[u16]) -> usize
 
 // Who is master: 0 nobody, else the unit's number + 1.
 pub fn holder(cells: &[u16]) -> u16
-    requires { ⌜ 2 ≤ length (now cells) ⌝ }
+    requires { ⌜ 66 ≤ length (now cells) ⌝ }
     ensures { λ r. ⌜ r ≡ holderIn (now (cells .entry)) ⌝ }
 {
     cells[HOLDER]
 }
 
 pub fn put_holder(cells: &mut [u16], holder: u16)
-    requires { ⌜ 2 ≤ length (now cells) ⌝ }
+    requires { ⌜ 66 ≤ length (now cells) ⌝ }
     ensures { λ _. ⌜ now (cells .exit) ≡ putHolder (now (cells .entry)) holder ⌝ }
 {
     cells[HOLDER] = holder;
@@ -51,7 +51,7 @@ pub fn put_holder(cells: &mut [u16], holder: u16)
 
 // The header of a fit: so many units, and no master.
 pub fn set_header(cells: &mut [u16], count: u16)
-    requires { ⌜ 2 ≤ length (now cells) ⌝ }
+    requires { ⌜ 66 ≤ length (now cells) ⌝ }
     ensures { λ _. ⌜ now (cells .exit) ≡ splice (now (cells .entry)) 0 (count ∷ 0 ∷ []) ⌝ }
 {
     let w = [count, 0];

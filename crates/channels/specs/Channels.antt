@@ -62,5 +62,6 @@ module _ (w : World) (setup : List ℕ) (done : numberOf (fit setup) w ≡ 0) wh
         serialKept = λ e handed. kept-so p s e handed;
         serialTogether = shown-together p s;
         serialOutlasts = outlasts p s;
+        addressesIndexed = s .apart .indexed;
         succeedsTogether = succeeded-between p s;
       }

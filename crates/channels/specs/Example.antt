@@ -10,6 +10,7 @@ use lib.ListN.{replicate}
 use Rattle.cells.specs.Fitted.{unitFitted}
 use Rattle.codec.specs.Rings.{inOrder, laidFrom}
 use Rattle.cells.specs.Fitted.{receiverOf}
+use Rattle.cells.specs.Index.{row}
 use Rattle.cells.specs.Ranges.{inRange}
 use Rattle.cells.specs.Search.{firstOf}
 use Rattle.fitting.specs.Fit.{unitsFitted}
@@ -24,7 +25,7 @@ use Rattle.channels.specs.History.{Past, past, receiverOpen, receiverSer
 
 -- cells that hold anything: the fit writes them all
 abbrev blank : World
-blank = record { cells = replicate 406 7; memory = λ k. [] }
+blank = record { cells = replicate 470 7; memory = λ k. [] }
 
 -- two units, with the addresses 1 and 2
 abbrev setup : List ℕ
@@ -59,17 +60,17 @@ shown p = (senderOpen (p .world) 0, receiverOpen (p .world) 1, p .sender 0, p .r
 
 -- both open in event 7
 opened : shown (past opening (begun blank setup fitted)) ≡ (true, true, 7, 7, 7 ∷ [])
-unfolding unitFitted unitsFitted takenBy unitsGood firstOf inRange ones crcWord crcBits inOrder laidFrom
+unfolding unitFitted unitsFitted takenBy unitsGood firstOf inRange ones crcWord crcBits inOrder laidFrom row
 opened = refl
 
 -- 11 is not stored as the rest of the first message: it closes R
 restarted : shown (past (opening ++ restart) (begun blank setup fitted)) ≡ (false, false, 7, 7, 7 ∷ [])
-unfolding unitFitted unitsFitted takenBy unitsGood firstOf inRange ones crcWord crcBits inOrder laidFrom
+unfolding unitFitted unitsFitted takenBy unitsGood firstOf inRange ones crcWord crcBits inOrder laidFrom row
 restarted = refl
 
 -- both open again, in event 17. 7 still stands in R's silo: R's host did no RC INIT
 opened-again : shown (past (opening ++ restart ++ again) (begun blank setup fitted)) ≡ (true, true, 17, 17, 7 ∷ 11 ∷ [])
-unfolding unitFitted unitsFitted takenBy unitsGood firstOf inRange ones crcWord crcBits inOrder laidFrom
+unfolding unitFitted unitsFitted takenBy unitsGood firstOf inRange ones crcWord crcBits inOrder laidFrom row
 opened-again = refl
 
 -- ---- the serials: T's, R's, and that of unit 0's own receiver
@@ -90,27 +91,27 @@ elsewhere =
 
 -- the first opening has the serial 1; TX INIT keeps it, and the word that closes R leaves it
 serials-opened : serials (past opening (begun blank setup fitted)) ≡ (1, 1, 0)
-unfolding unitFitted unitsFitted takenBy unitsGood firstOf inRange ones crcWord crcBits inOrder laidFrom
+unfolding unitFitted unitsFitted takenBy unitsGood firstOf inRange ones crcWord crcBits inOrder laidFrom row
 serials-opened = refl
 
 serials-restarted : serials (past (opening ++ restart) (begun blank setup fitted)) ≡ (1, 1, 0)
-unfolding unitFitted unitsFitted takenBy unitsGood firstOf inRange ones crcWord crcBits inOrder laidFrom
+unfolding unitFitted unitsFitted takenBy unitsGood firstOf inRange ones crcWord crcBits inOrder laidFrom row
 serials-restarted = refl
 
 -- T counts its openings to every receiver, and a receiver has the serial of its own last one
 serials-elsewhere : serials (past (opening ++ restart ++ elsewhere) (begun blank setup fitted)) ≡ (2, 1, 2)
-unfolding unitFitted unitsFitted takenBy unitsGood firstOf inRange ones crcWord crcBits inOrder laidFrom
+unfolding unitFitted unitsFitted takenBy unitsGood firstOf inRange ones crcWord crcBits inOrder laidFrom row
 serials-elsewhere = refl
 
 serials-again : serials (past (opening ++ restart ++ elsewhere ++ again) (begun blank setup fitted)) ≡ (3, 3, 2)
-unfolding unitFitted unitsFitted takenBy unitsGood firstOf inRange ones crcWord crcBits inOrder laidFrom
+unfolding unitFitted unitsFitted takenBy unitsGood firstOf inRange ones crcWord crcBits inOrder laidFrom row
 serials-again = refl
 
 -- RC INIT and reset keep them, and a fit makes them 0
 serials-kept : serials (past (opening ++ restart ++ elsewhere ++ again ++ (write 1 16 (2 ^ RCR.RC-INIT) ∷ reset 0 ∷ [])) (begun blank setup fitted)) ≡ (3, 3, 2)
-unfolding unitFitted unitsFitted takenBy unitsGood firstOf inRange ones crcWord crcBits inOrder laidFrom
+unfolding unitFitted unitsFitted takenBy unitsGood firstOf inRange ones crcWord crcBits inOrder laidFrom row
 serials-kept = refl
 
 serials-fitted : serials (past (opening ++ restart ++ elsewhere ++ again ++ (fit setup ∷ [])) (begun blank setup fitted)) ≡ (0, 0, 0)
-unfolding unitFitted unitsFitted takenBy unitsGood firstOf inRange ones crcWord crcBits inOrder laidFrom
+unfolding unitFitted unitsFitted takenBy unitsGood firstOf inRange ones crcWord crcBits inOrder laidFrom row
 serials-fitted = refl

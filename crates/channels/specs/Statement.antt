@@ -1,4 +1,4 @@
--- The promise over runs of calls, since document 02, No. 1; and since No. 6 of the serials.
+-- The promise over runs of calls, since document 02, No. 1; since No. 6 of the serials, and since No. 8 of the index.
 -- Assumes nothing.
 use mathlib.Core.Bool.{true, false}
 use mathlib.Core.List.{List, [], _∷_, _++_}
@@ -6,6 +6,7 @@ use mathlib.Core.Path.{_≡_}
 use Prim.Native.Nat.{ℕ, _%_, _≤_, _<_}
 use lib.Bits.{bitXor}
 use Rattle.cells.specs.Fitted.{transmitterOf, receiverOf}
+use Rattle.cells.specs.Index.{Indexed}
 use Rattle.cells.specs.Layout.{countIn, receiverAddress, transmitterAddress}
 use Rattle.laws.specs.Pick.{pick}
 use Rattle.pcl.specs.Link.{sliceCall}
@@ -174,6 +175,12 @@ SerialOutlasts p =
     (e : Event) → Handed e → fitsAgain e (p .world) ≡ false → (sender receiver : ℕ) → OpenBetween (p .world .cells) sender receiver
     → ShowOne (next e p .world) sender receiver
 
+-- ---- the index: document 02, No. 8
+
+-- "Its answer equals the full look-through for all 32 numbers, including 0 and the unused ones."
+abbrev pub AddressesIndexed : Past → Type 0
+AddressesIndexed p = Indexed (p .world .cells)
+
 -- ---- success
 
 -- what a slice call answers
@@ -215,4 +222,5 @@ pub record Channels (p : Past) : Type 0 where
   pub serialKept : SerialKept p
   pub serialTogether : SerialTogether p
   pub serialOutlasts : SerialOutlasts p
+  pub addressesIndexed : AddressesIndexed p
   pub succeedsTogether : SucceedsTogether p

@@ -3,6 +3,7 @@
 use mathlib.Core.List.{List, [], _∷_}
 use Prim.Native.Nat.{ℕ, zero, suc}
 use Rattle.cells.specs.Fitted.{unitFitted}
+use Rattle.cells.specs.Index.{putIndex}
 use Rattle.cells.specs.Layout.{encUnit}
 use Rattle.codec.specs.Window.{splice}
 use Rattle.master.specs.Side as M
@@ -25,5 +26,9 @@ unitsFitted zero setup cells = cells
 unitsFitted (suc n) setup cells = unitOf setup (unitsFitted n setup cells) n
 
 -- all its units, and then the header: so many units, and nobody is master
+abbrev pub headed : List ℕ → List ℕ → List ℕ
+headed cells setup = splice (unitsFitted (countOf setup) setup cells) 0 (countOf setup ∷ 0 ∷ [])
+
+-- and the index: document 02, No. 8, "filled at fit"
 abbrev pub fit : List ℕ → List ℕ → List ℕ
-fit cells setup = splice (unitsFitted (countOf setup) setup cells) 0 (countOf setup ∷ 0 ∷ [])
+fit cells setup = putIndex (headed cells setup)

@@ -1,10 +1,11 @@
-// The cells of a fit: every unit's sides in their initial state, and then the header.
+// The cells of a fit: every unit's sides in their initial state, and then the header with its index.
 use crate::setup::MEMORY;
 use crate::setup::NUMBERS;
 use crate::setup::RECEIVES_AS;
 use crate::setup::SENDS_AS;
 use crate::setup::SWITCH;
 use crate::setup::number;
+use cells::index::fill_index;
 use cells::layout::BLOCK;
 use cells::layout::HEADER;
 use cells::sides::put_master;
@@ -64,4 +65,5 @@ pub fn fit_link(cells: &mut [u16], setup: &[u32])
 {
     fit_units(cells, setup);
     set_header(cells, (setup.len() / NUMBERS) as u16);
+    fill_index(cells);
 }

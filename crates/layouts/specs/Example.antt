@@ -6,6 +6,7 @@ use mathlib.Core.Path.{_≡_, refl}
 use Prim.Native.Nat.{ℕ, _+_, _*_, _^_}
 use lib.ListN.{replicate, set}
 use Rattle.cells.specs.Fitted.{transmitterCells, masterCells, unitFitted}
+use Rattle.cells.specs.Index.{row}
 use Rattle.cells.specs.Layout.{transmitterPlace, masterPlace}
 use Rattle.cells.specs.Ranges.{inRange}
 use Rattle.codec.specs.Ends as E
@@ -25,7 +26,7 @@ use Rattle.layouts.specs.Shifting.{unitsShifted}
 
 -- a unit fitted over cells that hold anything
 abbrev fitted : World
-fitted = step (fit (1 ∷ 1 ∷ 2 ∷ 1 ∷ [])) (record { cells = replicate 204 7; memory = λ k. [] })
+fitted = step (fit (1 ∷ 1 ∷ 2 ∷ 1 ∷ [])) (record { cells = replicate 268 7; memory = λ k. [] })
 
 -- its two silos empty, and two cells before the end of their rings, as many words leave them
 abbrev begun : World
@@ -60,12 +61,12 @@ shown w = (data-silo w, address-silo w)
 
 -- both start at their last cell, go on at their first, and what was taken stands where it was
 gone-round : shown (left goingRound) ≡ ((63 + 2 * 64, 11 ∷ 0 ∷ [], 7 ∷ 9 ∷ []), (49 + 2 * 64, 8 ∷ 0 ∷ [], 3 ∷ 5 ∷ []))
-unfolding unitFitted unitsFitted takenBy unitsGood inRange inOrder laidFrom
+unfolding unitFitted unitsFitted takenBy unitsGood inRange row inOrder laidFrom
 gone-round = refl
 
 -- what is left has shifted to the first cells
 has-shifted : shown (left shifting) ≡ ((2 * 64, 9 ∷ 11 ∷ [], 0 ∷ 0 ∷ []), (2 * 64, 5 ∷ 8 ∷ [], 0 ∷ 0 ∷ []))
-unfolding unitFitted unitsFitted takenBy unitsGood inRange inOrder laidFrom unitsShifted
+unfolding unitFitted unitsFitted takenBy unitsGood inRange row inOrder laidFrom unitsShifted
 has-shifted = refl
 
 -- the next reads answer 9 and 11 in both
@@ -76,9 +77,9 @@ abbrev nine-eleven : List Answer
 nine-eleven = toRead (ReadCall.Register (Read.Word 9)) ∷ toRead (ReadCall.Register (Read.Word 11)) ∷ []
 
 next-round : next goingRound ≡ nine-eleven
-unfolding unitFitted unitsFitted takenBy unitsGood inRange inOrder laidFrom
+unfolding unitFitted unitsFitted takenBy unitsGood inRange row inOrder laidFrom
 next-round = refl
 
 next-shifted : next shifting ≡ nine-eleven
-unfolding unitFitted unitsFitted takenBy unitsGood inRange inOrder laidFrom unitsShifted
+unfolding unitFitted unitsFitted takenBy unitsGood inRange row inOrder laidFrom unitsShifted
 next-shifted = refl

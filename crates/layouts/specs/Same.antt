@@ -1,11 +1,12 @@
--- Two lent states that read alike, however words lie in their cells: the same room, the same units, the same master, and the same sides,
--- in which a silo is its words in order.
+-- Two lent states that read alike, however words lie in their cells: the same room, the same units, the same answers of the index, the
+-- same master, and the same sides, in which a silo is its words in order.
 -- Assumes nothing.
 use mathlib.Core.Bool.{true}
 use mathlib.Core.List.{List}
 use mathlib.Core.Path.{_≡_}
 use Prim.Native.Nat.{ℕ, _<_}
 use lib.ListN.{length}
+use Rattle.cells.specs.Index.{unitWith}
 use Rattle.cells.specs.Layout.{countIn, transmitterAddress, receiverAddress, memoryLength}
 use Rattle.cells.specs.Ranges.{inRange}
 use Rattle.frames.specs.laws.Leaves.{Agree}
@@ -23,6 +24,8 @@ pub record Same (cells other : List ℕ) : Type 0 where
   pub otherRanged : inRange other ≡ true
   pub room : length other ≡ length cells
   pub count : countIn other ≡ countIn cells
+  -- which unit has an address: as a transmitter's where k is 0, as a receiver's where it is 1
+  pub index : (k a : ℕ) → k < 2 → unitWith other k a ≡ unitWith cells k a
   pub own : (unit : ℕ) → unit < countIn cells → SameNumbers cells other unit
   -- who is master, and each fitted unit's transmitter, receiver and master section
   pub sides : Agree (countIn cells) (sidesOf cells) (sidesOf other)

@@ -1,3 +1,4 @@
+pub mod Addresses
 pub mod Frames
 pub mod Missing
 pub mod Ranges

@@ -24,7 +24,7 @@ use Rattle.pcl.specs.laws.Cases.{admitted-cases, fit-cases, slice-cases, move-c
 use Rattle.outcomes.specs.laws.FitRanged.{room-ranged}
 
 -- the unfitted state is all zero
-pub unfitted-ranged : (n : ℕ) → 2 ≤ n → inRange (replicate n 0) ≡ true
+pub unfitted-ranged : (n : ℕ) → 66 ≤ n → inRange (replicate n 0) ≡ true
 unfitted-ranged = unfitted
 
 -- "what a fit answered 0 leaves", whatever was lent

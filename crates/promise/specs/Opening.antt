@@ -5,6 +5,7 @@ use mathlib.Core.Path.{_≡_}
 use Prim.Native.Nat.{ℕ, _-_}
 use lib.Dec.{eqb}
 use Rattle.cells.specs.Fitted.{transmitterOf, receiverOf}
+use Rattle.cells.specs.Index.{Indexed}
 use Rattle.cells.specs.Layout.{countIn, holderIn, memoryLength, transmitterAddress}
 use Rattle.cells.specs.Search.{firstReceiver, firstTransmitter}
 use Rattle.delivery.specs.Conditions as Delivery
@@ -63,6 +64,9 @@ AtOpening p w =
 -- ---- w is as it stands before the opening slice
 
 pub record Opening (w : World) : Type 0 where
+  -- the index says what the look-through says of who has which address (document 02, No. 8). From a fit on it does (`channels`,
+  -- `AddressesIndexed`).
+  pub indexed : Indexed (w .cells)
   -- an undamaged slice call is answered 0, and B is 11
   pub answered : sliceNumber (undamaged w) ≡ 0
   pub acknowledged : bOf (sliceValue (undamaged w)) ≡ 3

@@ -15,6 +15,7 @@ pub mod Ready
 pub mod RegisterReads
 pub mod Reports
 pub mod Rings
+pub mod Rows
 pub mod Runs
 pub mod SliceCalls
 pub mod SliceEvents

@@ -10,6 +10,8 @@ use lib.Dec.{lit≤}
 use lib.ListN.{replicate}
 use Rattle.cells.specs.Fitted.{unitFitted}
 use Rattle.codec.specs.Rings.{inOrder, laidFrom}
+use Rattle.cells.specs.Index.{row}
+use Rattle.promise.specs.laws.Rows.{rows-say}
 use Rattle.cells.specs.Ranges.{inRange}
 use Rattle.cells.specs.Search.{firstOf}
 use Rattle.fitting.specs.Fit.{unitsFitted}
@@ -19,7 +21,7 @@ use Rattle.promise.specs.Statement.{wordsSent}
 use Rattle.promise.specs.World.{World, Event, fit, write, writeByte, slice, move, hostWrite, run}
 
 abbrev blank : World
-blank = record { cells = replicate 204 0; memory = λ k. replicate 6 0 }
+blank = record { cells = replicate 268 0; memory = λ k. replicate 6 0 }
 
 -- one unit, its addresses 1 and 1, its switch 2, with six words of memory; 7 and 9 in words 1 and 2; MASTER and AUT ADR; a load of two
 -- words from word 1 on, ST TXM, SND WD, TX NPR and IE to receiver 1; one of them is moved; a load of two words to word 3, RCV DAT,
@@ -44,7 +46,12 @@ abbrev pub start : World
 start =
     record {
       cells =
-          (1 ∷ 1 ∷ 0 ∷ 0 ∷ 0 ∷ 5 ∷ [])
+          (1 ∷ 1 ∷ [])
+          ++ (16 ∷ 0 ∷ [])
+          ++ replicate 30 16
+          ++ (16 ∷ 0 ∷ [])
+          ++ replicate 30 16
+          ++ (0 ∷ 0 ∷ 0 ∷ 5 ∷ [])
           ++ (64 ∷ 0 ∷ 0 ∷ 2 ∷ 32767 ∷ 24899 ∷ 0 ∷ 0 ∷ 0 ∷ 7 ∷ [])
           ++ replicate 63 0
           ++ (0 ∷ 0 ∷ 0 ∷ 3 ∷ 32766 ∷ 24643 ∷ 0 ∷ 0 ∷ 0 ∷ [])
@@ -55,19 +62,20 @@ start =
     }
 
 set-up : run setting blank .cells ≡ start .cells
-unfolding unitFitted unitsFitted takenBy unitsGood firstOf inRange inOrder laidFrom
+unfolding unitFitted unitsFitted takenBy unitsGood firstOf inRange inOrder laidFrom row
 set-up = refl
 
 set-up-memory : run setting blank .memory 0 ≡ start .memory 0
-unfolding unitFitted unitsFitted takenBy unitsGood firstOf inRange inOrder laidFrom
+unfolding unitFitted unitsFitted takenBy unitsGood firstOf inRange inOrder laidFrom row
 set-up-memory = refl
 
 -- ---- the next slice opens a message of two words
 
 pub opening : Opening start
-unfolding firstOf inRange ones inOrder laidFrom
+unfolding firstOf inRange ones inOrder laidFrom row
 opening =
     record {
+      indexed = rows-say (start .cells) refl refl;
       answered = refl;
       acknowledged = refl;
       conditions =

@@ -1,5 +1,5 @@
 -- The conditions can be met beside a unit whose cells no call wrote: 130 words, past a block, from one unit to another, which is master.
--- The cells are set up by calls; then those of a third unit are all overwritten. No two of the words are equal, and the memory they go to
+-- The cells are set up by calls; then those of a third unit are overwritten, all but its addresses, for the index has to say who has which. No two of the words are equal, and the memory they go to
 -- has none of them.
 -- Assumes nothing.
 use mathlib.Core.List.{List, [], _∷_, _++_}
@@ -11,6 +11,8 @@ use lib.Dec.{eqb, lit≤}
 use lib.ListN.{replicate}
 use Rattle.cells.specs.Fitted.{unitFitted}
 use Rattle.codec.specs.Rings.{inOrder, laidFrom}
+use Rattle.cells.specs.Index.{row}
+use Rattle.promise.specs.laws.Rows.{rows-say}
 use Rattle.cells.specs.Layout.{receiverAddress, transmitterAddress, unitPlace}
 use Rattle.cells.specs.Ranges.{inRange}
 use Rattle.cells.specs.Search.{firstOf}
@@ -34,7 +36,7 @@ abbrev memories : ℕ → List ℕ
 memories k = pick (eqb k 1) (counting 300 1) (replicate 300 0)
 
 abbrev blank : World
-blank = record { cells = replicate 608 0; memory = memories }
+blank = record { cells = replicate 672 0; memory = memories }
 
 -- three units; unit 2 is master. Unit 1 sends 130 words, from word 0 on, to unit 2's receiver, which stores them from word 150 on; one of
 -- them is moved, and a slice is for address 2.
@@ -52,17 +54,22 @@ setting =
     ∷ slice 0 0
     ∷ []
 
--- Then every cell of unit 0 is overwritten: its silos are full, its transmitter and its receiver are open, and every bit stands. Each search
--- for a unit comes to it first. With 0 or 1 in these cells it would have T's address or R's, and there would be no opening.
+-- Then every cell of unit 0 but its addresses is overwritten: its silos are full, its transmitter and its receiver are open, and every bit
+-- stands. A look through the units comes to it first.
 abbrev damaged : World → World
-damaged w = withCells w (splice (w .cells) (unitPlace 0) (replicate 202 65535))
+damaged w = withCells w (splice (w .cells) (unitPlace 0 + 2) (replicate 200 65535))
 
 abbrev start : World
 start =
     record {
       cells =
           (3 ∷ 3 ∷ [])
-          ++ replicate 202 65535
+          ++ (16 ∷ 1 ∷ 2 ∷ 0 ∷ [])
+          ++ replicate 28 16
+          ++ (16 ∷ 1 ∷ 2 ∷ 0 ∷ [])
+          ++ replicate 28 16
+          ++ (2 ∷ 2 ∷ [])
+          ++ replicate 200 65535
           ++ (0 ∷ 0 ∷ 0 ∷ 299 ∷ [])
           ++ (64 ∷ 0 ∷ 0 ∷ 1 ∷ 32639 ∷ 25091 ∷ 0 ∷ 0 ∷ 0 ∷ 1 ∷ [])
           ++ replicate 63 0
@@ -79,17 +86,18 @@ start =
     }
 
 set-up : damaged (run setting blank) .cells ≡ start .cells
-unfolding unitFitted unitsFitted takenBy unitsGood firstOf inRange inOrder laidFrom
+unfolding unitFitted unitsFitted takenBy unitsGood firstOf inRange inOrder laidFrom row
 set-up = refl
 
 set-up-memory : (run setting blank .memory 1 ≡ memories 1) × (run setting blank .memory 2 ≡ memories 2)
-unfolding unitFitted unitsFitted takenBy unitsGood firstOf inRange inOrder laidFrom
+unfolding unitFitted unitsFitted takenBy unitsGood firstOf inRange inOrder laidFrom row
 set-up-memory = (refl, refl)
 
 opening : Opening start
-unfolding firstOf inRange ones inOrder laidFrom
+unfolding firstOf inRange ones inOrder laidFrom row
 opening =
     record {
+      indexed = rows-say (start .cells) refl refl;
       answered = refl;
       acknowledged = refl;
       conditions =
@@ -128,12 +136,12 @@ long : wordsSent start ≡ 130
 unfolding firstOf inRange ones inOrder laidFrom
 long = refl
 
--- it is unit 1's message to unit 2; unit 0 has address 31 on both sides, which the cycle does not give
+-- it is unit 1's message to unit 2; unit 0 has address 3 on both sides, which the cycle does not give
 parties-are : parties start ≡ record { sender = 1; receiver = 2; master = 2 }
 unfolding firstOf inRange ones inOrder laidFrom
 parties-are = refl
 
-out-of-the-way : (transmitterAddress (start .cells) 0 ≡ 31) × (receiverAddress (start .cells) 0 ≡ 31) × (round start ≡ 2)
+out-of-the-way : (transmitterAddress (start .cells) 0 ≡ 3) × (receiverAddress (start .cells) 0 ≡ 3) × (round start ≡ 2)
 unfolding firstOf inRange ones inOrder laidFrom
 out-of-the-way = (refl, refl, refl)
 
@@ -160,11 +168,11 @@ times (suc k) es = es ++ times k es
 abbrev events : List Event
 events = times 63 (move 1 0 ∷ []) ++ times 133 (move 1 0 ∷ move 2 1 ∷ slice 0 0 ∷ slice 0 0 ∷ [])
 
--- R's memory, and unit 0's cells
+-- R's memory, and unit 0's overwritten cells
 abbrev leftIn : World → List ℕ × List ℕ
-leftIn w = (w .memory 2, window (w .cells) (unitPlace 0) 202)
+leftIn w = (w .memory 2, window (w .cells) (unitPlace 0 + 2) 200)
 
--- the words are there, and no cell of unit 0 has changed
-left : leftIn (after start events) ≡ (received, replicate 202 65535)
+-- the words are there, and none of those cells has changed
+left : leftIn (after start events) ≡ (received, replicate 200 65535)
 unfolding firstOf inRange ones crcWord crcBits inOrder laidFrom
 left = refl

@@ -8,6 +8,7 @@ use lib.Dec.{lit<}
 use lib.ListN.{replicate}
 use Rattle.cells.specs.Fitted.{unitFitted}
 use Rattle.codec.specs.Rings.{inOrder, laidFrom}
+use Rattle.cells.specs.Index.{row}
 use Rattle.cells.specs.Ranges.{inRange}
 use Rattle.cells.specs.Search.{firstOf}
 use Rattle.fitting.specs.Fit.{unitsFitted}
@@ -21,7 +22,7 @@ use Rattle.turns.specs.Promise.{planned-goes}
 use Rattle.turns.specs.Round.{GoesRound}
 
 abbrev blank : World
-blank = record { cells = replicate 406 0; memory = λ k. [] }
+blank = record { cells = replicate 470 0; memory = λ k. [] }
 
 -- two units, with the addresses 1 and 2
 abbrev fitted : World
@@ -29,7 +30,7 @@ fitted = step (fit ((1 ∷ 1 ∷ 2 ∷ 1 ∷ []) ++ (2 ∷ 2 ∷ 2 ∷ 1 ∷ [])
 
 -- unit 1's address silo is empty
 pub empty : Empty 1 (fitted .cells)
-unfolding unitFitted unitsFitted takenBy unitsGood inRange inOrder laidFrom
+unfolding unitFitted unitsFitted takenBy unitsGood inRange inOrder laidFrom row
 empty = record { ranged = refl; fitted = lit< tt; none = refl; notReading = refl }
 
 -- MASTER, and AUT ADR cleared
@@ -41,7 +42,7 @@ abbrev list : List ℕ
 list = times 5 (1 ∷ 2 ∷ 1 ∷ 3 ∷ [])
 
 pub goes : GoesRound 1 list (run (writes 1 list 1) fitted .cells)
-unfolding unitFitted unitsFitted takenBy unitsGood inOrder laidFrom
+unfolding unitFitted unitsFitted takenBy unitsGood inOrder laidFrom row
 goes =
     planned-goes (1 ∷ 10 ∷ 2 ∷ 5 ∷ 3 ∷ 5 ∷ []) room (list ++ replicate 30 0) 20 (sym half-and-quarters) 1 fitted empty 1 clears refl (inl refl)
 
@@ -51,5 +52,5 @@ slices zero = []
 slices (suc n) = slice 0 0 ∷ slices n
 
 pub went-round : addresses (run (printed 1 list) fitted) (slices 21) ≡ list ++ (1 ∷ [])
-unfolding unitFitted unitsFitted takenBy unitsGood inRange firstOf addresses differ inOrder laidFrom
+unfolding unitFitted unitsFitted takenBy unitsGood inRange firstOf addresses differ inOrder laidFrom row
 went-round = refl

@@ -12,7 +12,7 @@ use Rattle.laws.specs.Pick.{by}
 use Rattle.codec.specs.Window.{cell, window, splice}
 use Rattle.codec.specs.laws.WindowLaws.{length-splice, window-before, window-after, cell-before, cell-past}
 use Rattle.cells.specs.Fitted.{Fitted}
-use Rattle.cells.specs.Layout.{countIn, holderIn, unitPlace, ownCell, transmitterAddress, receiverAddress, memoryLength}
+use Rattle.cells.specs.Layout.{countIn, holderIn, entryPlace, entryIn, unitPlace, ownCell, transmitterAddress, receiverAddress, memoryLength}
 use Rattle.cells.specs.Ranges.{inRange}
 use Rattle.cells.specs.Search.{firstTransmitter, firstReceiver}
 use Rattle.cells.specs.laws.RangeLaws.{in-range-agrees}
@@ -21,6 +21,10 @@ use Rattle.cells.specs.laws.SearchLaws.{first-agrees}
 -- every unit's own cells are the same after as before
 abbrev pub SameOwn : List ℕ → List ℕ → Type 0
 SameOwn cells after = (k j : ℕ) → j < 4 → ownCell after j k ≡ ownCell cells j k
+
+-- the index is the same after as before
+abbrev pub SameIndex : List ℕ → List ℕ → Type 0
+SameIndex cells after = (k a : ℕ) → k < 2 → entryIn after k a ≡ entryIn cells k a
 
 -- ---- a part at o of the block of a fitted unit u replaced
 
@@ -33,6 +37,9 @@ module _ (cells : List ℕ) (u : ℕ) (f : Fitted cells u) (o : ℕ) (w : List �
 
   pub holder-kept : holderIn (splice cells (unitPlace u + o) w) ≡ holderIn cells
   holder-kept = cell-before cells (unitPlace u + o) w fits 1 (omega arith)
+
+  pub index-kept : SameIndex cells (splice cells (unitPlace u + o) w)
+  index-kept k a h = cell-before cells (unitPlace u + o) w fits (entryPlace k a) (omega arith)
 
   pub length-kept : length (splice cells (unitPlace u + o) w) ≡ length cells
   length-kept = length-splice cells (unitPlace u + o) w fits

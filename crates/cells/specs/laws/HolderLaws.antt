@@ -15,9 +15,9 @@ use Rattle.codec.specs.Transmitters.{decTransmitter}
 use Rattle.codec.specs.Window.{cell, window, splice}
 use Rattle.codec.specs.laws.WindowLaws.{length-splice, window-after, cell-before, cell-inside, cell-past}
 use Rattle.cells.specs.Fitted.{Fitted, transmitterOf, receiverOf, masterOf}
-use Rattle.cells.specs.Layout.{countIn, holderIn, unitPlace}
+use Rattle.cells.specs.Layout.{countIn, holderIn, entryPlace, unitPlace}
 use Rattle.cells.specs.Ranges.{inRange}
-use Rattle.cells.specs.laws.FrameLaws.{SameOwn}
+use Rattle.cells.specs.laws.FrameLaws.{SameIndex, SameOwn}
 use Rattle.cells.specs.laws.RangeLaws.{in-range-says, in-range-is}
 
 -- one cell set is a splice of one
@@ -25,9 +25,9 @@ pub set-is-splice : (cells : List ℕ) (i x : ℕ) → i < length cells → set 
 set-is-splice cells i x h =
     set-split cells i x h ∙ rw add-one (sym (append-assoc (take i cells) (x ∷ []) (drop (suc i) cells)))
 
-module _ (cells : List ℕ) (header : 2 ≤ length cells) (holder : ℕ) where
+module _ (cells : List ℕ) (header : 66 ≤ length cells) (holder : ℕ) where
   fits : 1 + 1 ≤ length cells
-  fits = header
+  fits = omega arith
 
   pub set-holder : set cells 1 holder ≡ splice cells 1 (holder ∷ [])
   set-holder = set-is-splice cells 1 holder fits
@@ -43,6 +43,9 @@ module _ (cells : List ℕ) (header : 2 ≤ length cells) (holder : ℕ) where
 
   pub cell-after-holder : (i : ℕ) → 2 ≤ i → cell (splice cells 1 (holder ∷ [])) i ≡ cell cells i
   cell-after-holder i h = cell-past cells 1 (holder ∷ []) fits i h
+
+  pub index-after-holder : SameIndex cells (splice cells 1 (holder ∷ []))
+  index-after-holder k a h = cell-after-holder (entryPlace k a) (omega arith)
 
   pub own-after-holder : SameOwn cells (splice cells 1 (holder ∷ []))
   own-after-holder k j h = cell-after-holder (unitPlace k + j) (omega arith)

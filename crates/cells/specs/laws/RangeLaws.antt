@@ -4,18 +4,17 @@ use mathlib.Core.Bool.{true, _&&_}
 use mathlib.Core.List.{List}
 use mathlib.Core.Path.{_≡_}
 use Prim.Native.Nat.{ℕ, zero, suc, _≤_, _<_}
-use native.Mathlib.Nat.{le-of-suc-le-suc, not-suc-le-zero}
 use native.Mathlib.Omega.{arith}
 use borrow.Author.Tests.{leb-true, le-leb}
 use lib.Dec.{leb}
-use lib.ListN.{length, replicate}
+use lib.ListN.{length, replicate, length-replicate}
 use Rattle.laws.specs.laws.Both.{both, left-of, right-of}
 use Rattle.cells.specs.Fitted.{Fitted}
 use Rattle.cells.specs.Layout.{countIn, holderIn, unitPlace}
 use Rattle.cells.specs.Ranges.{inRange}
 
 pub record InRange (cells : List ℕ) : Type 0 where
-  pub header : 2 ≤ length cells
+  pub header : 66 ≤ length cells
   pub most : countIn cells ≤ 16
   pub room : unitPlace (countIn cells) ≤ length cells
   pub holder : holderIn cells ≤ countIn cells
@@ -24,7 +23,7 @@ module _ (cells : List ℕ) where
   pub in-range-says : inRange cells ≡ true → InRange cells
   unfolding inRange
   in-range-says ok =
-      let a = leb 2 (length cells) in
+      let a = leb 66 (length cells) in
       let b = leb (countIn cells) 16 in
       let c = leb (unitPlace (countIn cells)) (length cells) in
       let d = leb (holderIn cells) (countIn cells) in
@@ -56,7 +55,9 @@ in-range-agrees cells after room count holder = rw (room, count, holder)
 
 -- ---- the unfitted state: all zero, of any length that has room for the header
 
-pub unfitted : (n : ℕ) → 2 ≤ n → inRange (replicate n 0) ≡ true
-unfitted zero h = absurd (not-suc-le-zero h)
-unfitted (suc zero) h = absurd (not-suc-le-zero (le-of-suc-le-suc h))
-unfitted (suc (suc n)) h = in-range-is (replicate (suc (suc n)) 0) (record { header = omega arith; most = omega arith; room = omega arith; holder = omega arith })
+pub unfitted : (n : ℕ) → 66 ≤ n → inRange (replicate n 0) ≡ true
+unfitted zero h = absurd (omega arith)
+unfitted (suc zero) h = absurd (omega arith)
+unfitted (suc (suc n)) h =
+    let l : length {A = ℕ} (replicate n 0) ≡ n = length-replicate n 0 in
+    in-range-is (replicate (suc (suc n)) 0) (record { header = omega arith; most = omega arith; room = omega arith; holder = omega arith })

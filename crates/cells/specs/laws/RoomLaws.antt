@@ -5,5 +5,5 @@ use native.Mathlib.Omega.{arith}
 use Rattle.cells.specs.Layout.{unitPlace}
 
 -- the header
-pub header-room : (unit n : ℕ) → unitPlace unit + 202 ≤ n → 2 ≤ n
+pub header-room : (unit n : ℕ) → unitPlace unit + 202 ≤ n → 66 ≤ n
 header-room unit n fits = omega arith

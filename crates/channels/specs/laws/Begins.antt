@@ -11,12 +11,13 @@ use borrow.Author.Tests.{eq-eqb, le-ltb, ltb-false, not-true}
 use lib.Dec.{eqb, leb, ltb}
 use lib.ListN.{length}
 use Rattle.cells.specs.Fitted.{transmitterOf, receiverOf}
+use Rattle.cells.specs.Index.{Indexed}
 use Rattle.cells.specs.Layout.{countIn, receiverAddress, transmitterAddress, unitPlace}
 use Rattle.cells.specs.Ranges.{inRange}
 use Rattle.fitting.specs.Fit.{fit}
 use Rattle.fitting.specs.SetUp.{again, countOf, numberOf, setUpGood, takenBy, unitGood, unitsGood}
 use Rattle.fitting.specs.laws.SetUpLaws.{good-says}
-use Rattle.frames.specs.laws.Fits.{fit-ranged}
+use Rattle.frames.specs.laws.Fits.{fit-indexed, fit-ranged}
 use Rattle.frames.specs.laws.Fresh.{fit-count, fit-started}
 use Rattle.frames.specs.laws.Started.{Started}
 use Rattle.laws.specs.Pick.{past, pick}
@@ -26,10 +27,11 @@ use Rattle.receiver.specs.declared.side.Receiver.{Receiver}
 use Rattle.silos.specs.Silo.{count}
 use Rattle.transmitter.specs.declared.side.Transmitter.{Transmitter}
 
--- no two units have one transmitter address, or one receiver address
+-- no two units have one transmitter address, or one receiver address, and the index says who has which
 pub record Apart (cells : List ℕ) : Type 0 where
   pub sends : (a b : ℕ) → a < countIn cells → b < countIn cells → transmitterAddress cells a ≡ transmitterAddress cells b → a ≡ b
   pub receives : (a b : ℕ) → a < countIn cells → b < countIn cells → receiverAddress cells a ≡ receiverAddress cells b → a ≡ b
+  pub indexed : Indexed cells
 
 pub record Begins (cells : List ℕ) : Type 0 where
   pub ranged : inRange cells ≡ true
@@ -118,6 +120,7 @@ fit-begins cells setup good enough =
             receives = λ a b h l same.
                 each-apart setup 1 (λ n x. one-fewer setup n x .2) (countOf setup) ok a b (within a h) (within b l)
                 (sym (started a h .receiverAt) ∙ same ∙ started b l .receiverAt);
+            indexed = fit-indexed setup cells good room;
           };
       closed = λ k h. ap (λ (t : Transmitter). t .end .opened) (started k h .transmitter);
       closedThere = λ k h. ap (λ (r : Receiver). r .end .opened) (started k h .receiver);

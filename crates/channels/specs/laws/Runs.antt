@@ -11,7 +11,7 @@ use lib.Dec.{eqb}
 use Rattle.cells.specs.Layout.{countIn}
 use Rattle.cells.specs.Ranges.{inRange}
 use Rattle.cells.specs.laws.FrameLaws.{receiver-address-kept, transmitter-address-kept}
-use Rattle.frames.specs.laws.Kept.{Kept}
+use Rattle.frames.specs.laws.Kept.{Kept, indexed-kept}
 use Rattle.laws.specs.Pick.{by, either, pick}
 use Rattle.laws.specs.laws.Both.{left-of, right-of}
 use Rattle.pcl.specs.Link.{sliceCall}
@@ -41,7 +41,7 @@ module _ (before after : Bool) (event last : ℕ) where
   not-after : last < event → lastOpened before after event last ≤ event
   not-after h = either (λ (n : ℕ). n ≤ event) (not before && after) (λ e. omega arith) (λ e. omega arith)
 
--- addresses stay
+-- addresses and the index stay
 apart-kept : {cells after : List ℕ} → Kept cells after → Apart cells → Apart after
 apart-kept {cells} {after} kept a =
     let t = transmitter-address-kept cells after (kept .own) in
@@ -50,6 +50,7 @@ apart-kept {cells} {after} kept a =
     record {
       sends = λ x y h l same. a .sends x y (omega arith) (omega arith) (sym (t x) ∙ same ∙ t y);
       receives = λ x y h l same. a .receives x y (omega arith) (omega arith) (sym (r x) ∙ same ∙ r y);
+      indexed = indexed-kept kept (a .indexed);
     }
 
 pub record Sound (p : Past) : Type 0 where

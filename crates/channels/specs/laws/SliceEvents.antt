@@ -17,14 +17,15 @@ use Rattle.cells.specs.Layout.{countIn, holderIn, receiverAddress, transmitterA
 use Rattle.cells.specs.Ranges.{inRange}
 use Rattle.cells.specs.Search.{firstSecondary}
 use Rattle.cells.specs.laws.FrameLaws.{receiver-address-kept, transmitter-address-kept}
-use Rattle.cells.specs.laws.SearchLaws as Search
-use Rattle.frames.specs.laws.Leaves.{Anywhere, Leaves, receiver-within, stays, transmitter-within}
+use Rattle.cells.specs.laws.IndexLaws.{index-fitted}
+use Rattle.frames.specs.laws.Leaves.{Anywhere, Leaves, master-within, receiver-within, stays, transmitter-within}
 use Rattle.frames.specs.laws.Masterless.{no-master, without-leaves}
-use Rattle.frames.specs.laws.Serving.{heardOn, receiverFor, servedOn, unitFor}
+use Rattle.frames.specs.laws.Serving.{heardOn, receiver-has, receiverFor, servedOn, unit-has, unitFor}
 use Rattle.frames.specs.laws.Sides.{Sides, replaced-here, replaced-other, sidesOf}
-use Rattle.frames.specs.laws.Slices.{nextAddress, nextOn, slice-passes}
+use Rattle.frames.specs.laws.Slices.{master-fitted, nextAddress, nextOn, slice-passes}
 use Rattle.laws.specs.Pick.{by, either, here, past}
 use Rattle.laws.specs.laws.Both.{both}
+use Rattle.master.specs.laws.Laws.{next-lt}
 use Rattle.pcl.specs.Link.{passedBy, sliceCall}
 use Rattle.pcl.specs.Numbers.{addressOf, sliceNumber, sliceValue}
 use Rattle.pcl.specs.declared.answers.SliceCall.{SliceCall}
@@ -71,7 +72,7 @@ still-alone t = (
 -- ---- T and R are found
 
 module _ (kind : ℕ → Kind) (cells after : List ℕ) (ok : inRange cells ≡ true) (apart : Apart cells) (m from mask : ℕ) (parity : Bool)
-    (mine : kind from ≡ own) where
+    (number : from < 32) (mine : kind from ≡ own) where
   module _ (near : unitFor cells from < 16) (near-there : receiverFor cells (transmitterOf cells (unitFor cells from)) < 16) where
     abbrev unit : ℕ
     unit = unitFor cells from
@@ -92,16 +93,16 @@ module _ (kind : ℕ → Kind) (cells after : List ℕ) (ok : inRange cells ≡ 
     s = heardOn (nextOn cells m) unit there from mask parity .1
 
     unit-fitted : unit < countIn cells
-    unit-fitted = omega (arith, Search.fitted (transmitterAddress cells) from (countIn cells) 0 near)
+    unit-fitted = index-fitted cells 0 from near
 
     there-fitted : there < countIn cells
-    there-fitted = omega (arith, Search.fitted (receiverAddress cells) (destinationOf t) (countIn cells) 0 near-there)
+    there-fitted = index-fitted cells 1 (destinationOf t) near-there
 
     sends-as : transmitterAddress cells unit ≡ from
-    sends-as = Search.found (transmitterAddress cells) from (countIn cells) 0 near
+    sends-as = unit-has cells (apart .indexed) from number near
 
     receives-as : receiverAddress cells there ≡ destinationOf t
-    receives-as = Search.found (receiverAddress cells) (destinationOf t) (countIn cells) 0 near-there
+    receives-as = receiver-has cells (apart .indexed) t (transmitter-within (stays ok) unit unit-fitted) near-there
 
     x : Exchanges t r from mask p
     x = exchanges t r (receiver-within (stays ok) there there-fitted .end .silo) from mask parity
@@ -437,6 +438,9 @@ module _ (cells : List ℕ) (ok : inRange cells ≡ true) (apart : Apart cells) 
     abbrev from : ℕ
     from = nextAddress cells m
 
+    number : from < 32
+    number = next-lt _ (master-within (stays ok) m (master-fitted cells ok mask (eqb parity 1) m master-held))
+
     abbrev kind : ℕ → Kind
     kind address = sliceKind address (sliceCall cells mask parity .0)
 
@@ -452,14 +456,14 @@ module _ (cells : List ℕ) (ok : inRange cells ≡ true) (apart : Apart cells) 
     master-goes : By (sliceCall cells mask parity)
     master-goes =
         subst⁻¹ (λ (outcome : SliceCall × List ℕ). Goes kind mask cells (outcome .1)) (slice-call cells ok mask parity m master-held few)
-        (served-goes kind cells after ok apart m from mask (eqb parity 1) mine (slice-passes cells ok mask (eqb parity 1) m master-held .leaves))
+        (served-goes kind cells after ok apart m from mask (eqb parity 1) number mine (slice-passes cells ok mask (eqb parity 1) m master-held .leaves))
 
     master-succeeds : SucceedsBy
     master-succeeds y =
         let called : sliceCall cells mask parity .0 ≡ SliceCall.Passed (Slot.Given given) =
         ap (λ (outcome : SliceCall × List ℕ). outcome .0) (slice-call cells ok mask parity m master-held few) in
         let shows = slice-shows cells mask parity given called in
-        let z = served-succeeds kind cells after ok apart m from mask (eqb parity 1) mine (sym (shows .a) ∙ y .a) (sym (shows .b) ∙ y .b) in
+        let z = served-succeeds kind cells after ok apart m from mask (eqb parity 1) number mine (sym (shows .a) ∙ y .a) (sym (shows .b) ∙ y .b) in
         (z .0, z .1, z .2 ∙ sym (shows .address), z .3)
 
   pub slice-goes : By (sliceCall cells mask parity)

@@ -1,4 +1,4 @@
--- A fit of a good set-up leaves the lent cells in range, whatever they held before.
+-- A fit of a good set-up leaves the lent cells in range and their index filled, whatever they held before.
 -- Assumes nothing.
 use mathlib.Core.Bool.{true}
 use mathlib.Core.List.{List}
@@ -7,7 +7,9 @@ use Prim.Native.Nat.{ℕ, zero, suc, _+_, _≤_}
 use native.Mathlib.Omega.{arith}
 use lib.Dec.{lit<}
 use lib.ListN.{length, replicate, length-replicate}
+use Rattle.cells.specs.Index.{Indexed}
 use Rattle.cells.specs.laws.FitLaws.{fit-in-range}
+use Rattle.cells.specs.laws.IndexLaws.{filled, in-range-filled}
 use Rattle.cells.specs.Fitted.{transmitterCells, receiverCells, masterCells, putTransmitter, putReceiver, blank, unitFitted}
 use Rattle.cells.specs.Layout.{unitPlace, transmitterPlace, receiverPlace, masterPlace, encUnit}
 use Rattle.cells.specs.Ranges.{inRange}
@@ -19,7 +21,7 @@ use Rattle.codec.specs.laws.TransmitterLaws.{length-transmitter}
 use Rattle.codec.specs.Transmitters.{encTransmitter}
 use Rattle.codec.specs.Window.{splice}
 use Rattle.codec.specs.laws.WindowLaws.{length-splice, length-window}
-use Rattle.fitting.specs.Fit.{unitOf, unitsFitted, fit}
+use Rattle.fitting.specs.Fit.{unitOf, unitsFitted, headed, fit}
 use Rattle.fitting.specs.SetUp.{numberOf, countOf, setUpGood}
 use Rattle.fitting.specs.laws.SetUpLaws.{UnitGood, good-says}
 use Rattle.master.specs.laws.Laws as ML
@@ -108,8 +110,15 @@ module _ (setup cells : List ℕ) (ok : setUpGood setup ≡ true) (room : unitPl
       let before : length (unitsFitted n setup cells) ≡ length cells = fitted-length n (omega arith) in
       one-length setup (unitsFitted n setup cells) n (good-says setup ok .units n h) (omega arith) ∙ before
 
-  pub fit-ranged : inRange (fit cells setup) ≡ true
-  fit-ranged =
+  pub headed-ranged : inRange (headed cells setup) ≡ true
+  headed-ranged =
       let count = countOf setup in
       let l : length (unitsFitted count setup cells) ≡ length cells = fitted-length count (omega arith) in
       fit-in-range (unitsFitted count setup cells) count (good-says setup ok .most) (omega arith)
+
+  pub fit-ranged : inRange (fit cells setup) ≡ true
+  fit-ranged = in-range-filled (headed cells setup) headed-ranged
+
+  -- document 02, No. 8: the index that it leaves says what the look-through says
+  pub fit-indexed : Indexed (fit cells setup)
+  fit-indexed = filled (headed cells setup) headed-ranged

@@ -5,13 +5,12 @@ use mathlib.Core.Bool.{Bool, true}
 use mathlib.Core.List.{List}
 use mathlib.Core.Path.{_≡_, refl, subst, subst⁻¹, _∙_}
 use Prim.Native.Nat.{ℕ, _+_, _<_}
-use native.Mathlib.Omega.{arith}
 use Rattle.answering.specs.Choice.{openWithAnother}
 use Rattle.bus.specs.Slice.{slicePassed}
 use Rattle.cells.specs.Fitted.{transmitterOf, receiverOf, masterOf}
 use Rattle.cells.specs.Ranges.{inRange}
-use Rattle.cells.specs.Layout.{countIn, holderIn, transmitterAddress, receiverAddress}
-use Rattle.cells.specs.laws.SearchLaws.{fitted}
+use Rattle.cells.specs.Layout.{countIn, holderIn}
+use Rattle.cells.specs.laws.IndexLaws.{index-fitted}
 use Rattle.master.specs.Section.{nextOf}
 use Rattle.sending.specs.Choice.{destinationOf}
 use Rattle.slices.specs.laws.Keeps.{another}
@@ -69,11 +68,11 @@ module _ (cells : List ℕ) (ok : inRange cells ≡ true) (mask : ℕ) (parity :
 
   module _ (unit : ℕ) (found : unitFor cells (nextAddress cells m) ≡ unit) (there : unit < 16) (other : ℕ) (heard : receiverFor cells (transmitterOf cells unit) ≡ other) (near : other < 16) where
     pub unit-fitted : unit < countIn cells
-    unit-fitted = omega (arith, fitted (transmitterAddress cells) (nextAddress cells m) (countIn cells) 0 (subst⁻¹ (λ (n : ℕ). n < 16) found there))
+    unit-fitted = subst (λ (n : ℕ). n < countIn cells) found (index-fitted cells 0 (nextAddress cells m) (subst⁻¹ (λ (n : ℕ). n < 16) found there))
 
     pub other-fitted : other < countIn cells
     other-fitted =
-        omega (arith, fitted (receiverAddress cells) (destinationOf (transmitterOf cells unit)) (countIn cells) 0 (subst⁻¹ (λ (n : ℕ). n < 16) heard near))
+        subst (λ (n : ℕ). n < countIn cells) heard (index-fitted cells 1 (destinationOf (transmitterOf cells unit)) (subst⁻¹ (λ (n : ℕ). n < 16) heard near))
 
     ends : Holds (slicePassed cells mask parity .1) (countIn cells) (heardOn (nextOn cells m) unit other (nextAddress cells m) mask parity .1)
     ends = slice-heard cells ok mask parity m held unit found there other heard near .leaves .holds

@@ -11,10 +11,10 @@ use Rattle.answering.specs.Choice.{openWithAnother}
 use Rattle.bus.specs.Slice as B
 use Rattle.bus.specs.declared.slice.Given.{Given}
 use Rattle.cells.specs.Fitted.{transmitterOf}
-use Rattle.cells.specs.laws.FrameLaws.{transmitter-found-kept, receiver-found-kept}
-use Rattle.cells.specs.Layout.{countIn, transmitterAddress, receiverAddress}
+use Rattle.cells.specs.Index.{Indexed, transmitterWith, receiverWith}
+use Rattle.cells.specs.laws.IndexLaws.{index-fitted, receives-as, sends-as, with-kept}
+use Rattle.cells.specs.Layout.{countIn, receiverAddress, transmitterAddress}
 use Rattle.cells.specs.Search.{firstTransmitter, firstReceiver}
-use Rattle.cells.specs.laws.SearchLaws.{fitted}
 use Rattle.laws.specs.Pick.{pick, either}
 use Rattle.receiver.specs.declared.side.Receiver.{Receiver}
 use Rattle.sending.specs.Choice.{actsOn, chosen, destinationOf}
@@ -22,6 +22,7 @@ use Rattle.slices.specs.laws.Keeps.{idle-pair, idle-alone, as-alone, within-tra
 use Rattle.slices.specs.Slice.{exchanged, sentAlone}
 use Rattle.slices.specs.declared.Alone.{Alone}
 use Rattle.slices.specs.declared.Pair.{Pair}
+use Rattle.transmitter.specs.Side as T
 use Rattle.transmitter.specs.declared.side.Transmitter.{Transmitter}
 use Rattle.words.specs.Codes.{noCodes}
 use Rattle.words.specs.declared.codes.Codes.{Codes}
@@ -33,20 +34,36 @@ use Rattle.frames.specs.laws.Kept.{Kept}
 -- ---- the units found, by the addresses in the cells: the same after as before where these are kept
 
 abbrev pub unitFor : List ℕ → ℕ → ℕ
-unitFor cells from = firstTransmitter cells (countIn cells) from
+unitFor cells from = transmitterWith cells from
 
 abbrev pub receiverFor : List ℕ → Transmitter → ℕ
-receiverFor cells t = firstReceiver cells (countIn cells) (destinationOf t)
+receiverFor cells t = receiverWith cells (destinationOf t)
 
 module _ {cells after : List ℕ} (kept : Kept cells after) where
   pub unit-for-kept : (from : ℕ) → unitFor after from ≡ unitFor cells from
-  unit-for-kept from =
-      transmitter-found-kept cells after (kept .own) (countIn after) from ∙ ap (λ (n : ℕ). firstTransmitter cells n from) (kept .count)
+  unit-for-kept from = with-kept cells after (kept .index) (kept .count) 0 from (omega arith)
 
   pub receiver-for-kept : (t : Transmitter) → receiverFor after t ≡ receiverFor cells t
-  receiver-for-kept t =
-      receiver-found-kept cells after (kept .own) (countIn after) (destinationOf t)
-      ∙ ap (λ (n : ℕ). firstReceiver cells n (destinationOf t)) (kept .count)
+  receiver-for-kept t = with-kept cells after (kept .index) (kept .count) 1 (destinationOf t) (omega arith)
+
+-- what a transmitter addresses has 5 bits
+destination-lt : (t : Transmitter) → T.Within t → destinationOf t < 32
+destination-lt t h = either (λ (n : ℕ). n < 32) (t .end .opened) (λ o. h .latched) (λ s. h .destination)
+
+-- where the index says what the look-through says, they are those that the look-through finds, and have the address
+module _ (cells : List ℕ) (indexed : Indexed cells) where
+  pub unit-is : (from : ℕ) → from < 32 → unitFor cells from ≡ firstTransmitter cells (countIn cells) from
+  unit-is = indexed .transmitter
+
+  pub unit-has : (from : ℕ) → from < 32 → unitFor cells from < 16 → transmitterAddress cells (unitFor cells from) ≡ from
+  unit-has from number = sends-as cells indexed from number
+
+  module _ (t : Transmitter) (h : T.Within t) where
+    pub receiver-is : receiverFor cells t ≡ firstReceiver cells (countIn cells) (destinationOf t)
+    receiver-is = indexed .receiver (destinationOf t) (destination-lt t h)
+
+    pub receiver-has : receiverFor cells t < 16 → receiverAddress cells (receiverFor cells t) ≡ destinationOf t
+    receiver-has = receives-as cells indexed (destinationOf t) (destination-lt t h)
 
 -- ---- a slice on the sides, as `bus` has it on the cells
 
@@ -142,7 +159,7 @@ module _ {cells middle : List ℕ} {s : Sides} (l : Leaves Anywhere cells middle
     slice =
         let t = s .transmitter unit in
         let other = receiverFor cells t in
-        let found : other < 16 → other < countIn cells = λ near. omega (arith, fitted (receiverAddress cells) (destinationOf t) (countIn cells) 0 near) in
+        let found : other < 16 → other < countIn cells = index-fitted cells 1 (destinationOf t) in
         let Q : Codes × List ℕ → Type 0 = λ p. Serves cells (B.given from p) from (sliceOn cells s unit from mask parity) in
         subst⁻¹ (λ (x : Transmitter). Q (pick (actsOn (chosen x)) (B.actingSlice middle unit from mask parity) (noCodes, middle))) same
         (either Q (actsOn (chosen t))
@@ -157,5 +174,5 @@ module _ {cells middle : List ℕ} {s : Sides} (l : Leaves Anywhere cells middle
       let unit = unitFor cells from in
       subst⁻¹ (λ (n : ℕ). Serves cells (B.servedOr middle n from mask parity) from (servedOn cells s from mask parity)) (unit-for-kept (l .kept) from)
       (alike (λ (p : Given × List ℕ) (q : Codes × Sides). Serves cells p from q) (ltb unit 16)
-      (λ e. slice unit (omega (arith, fitted (transmitterAddress cells) from (countIn cells) 0 (ltb-true unit 16 e))))
+      (λ e. slice unit (index-fitted cells 0 from (ltb-true unit 16 e)))
       (λ e. record { answer = refl; leaves = l }))

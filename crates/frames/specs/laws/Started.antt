@@ -56,7 +56,7 @@ module _ (cells : List ℕ) (at : ℕ) (w : List ℕ) (fits : at + length w ≤ 
         own = λ j inside. cell-past cells at w fits (unitPlace unit + j) (omega arith);
       }
 
-same-then : {unit : ℕ} {cells middle after : List ℕ} → SameBlock unit cells middle → SameBlock unit middle after → SameBlock unit cells after
+pub same-then : {unit : ℕ} {cells middle after : List ℕ} → SameBlock unit cells middle → SameBlock unit middle after → SameBlock unit cells after
 same-then a b = record { part = λ p n h. b .part p n h ∙ a .part p n h; own = λ j h. b .own j h ∙ a .own j h }
 
 pub started-again : {setup cells after : List ℕ} {unit : ℕ} → SameBlock unit cells after → Started setup unit cells → Started setup unit after

@@ -10,8 +10,8 @@ use borrow.Author.Tests.{eqb-true, eqb-false}
 use lib.Dec.{eqb, lit≤}
 use lib.ListN.{length}
 use Rattle.cells.specs.Fitted.{Fitted, transmitterOf, receiverOf, masterOf, transmitterCells, receiverCells, masterCells, putTransmitter, putReceiver, putMaster, putNext}
-use Rattle.cells.specs.laws.FrameLaws.{cell-kept, count-kept, holder-kept, length-kept, own-kept, in-range-kept}
-use Rattle.cells.specs.laws.HolderLaws.{set-holder, cell-after-holder, holder-put, length-after-holder, count-after-holder, own-after-holder, holder-in-range, transmitter-after-holder, receiver-after-holder, master-after-holder}
+use Rattle.cells.specs.laws.FrameLaws.{cell-kept, count-kept, holder-kept, index-kept, length-kept, own-kept, in-range-kept}
+use Rattle.cells.specs.laws.HolderLaws.{set-holder, cell-after-holder, holder-put, length-after-holder, count-after-holder, index-after-holder, own-after-holder, holder-in-range, transmitter-after-holder, receiver-after-holder, master-after-holder}
 use Rattle.cells.specs.laws.RangeLaws.{in-range-says}
 use Rattle.cells.specs.Layout.{countIn, putHolder, unitPlace}
 use Rattle.cells.specs.laws.PutLaws as Put
@@ -44,7 +44,12 @@ module _ {touched : ℕ → Type 0} {cells middle : List ℕ} {s : Sides} (l : L
     side-kept : (o : ℕ) (w : List ℕ) → 4 ≤ o → o + length w ≤ 202 → Kept cells (splice middle (unitPlace u + o) w)
     side-kept o w side part =
         kept-then cells middle (splice middle (unitPlace u + o) w) (l .kept)
-        (record { room = length-kept middle u here o w part; count = count-kept middle u here o w part; own = own-kept middle u here o w part side })
+        (record {
+          room = length-kept middle u here o w part;
+          count = count-kept middle u here o w part;
+          index = index-kept middle u here o w part;
+          own = own-kept middle u here o w part side;
+        })
 
     -- and no cell of a unit that is not touched
     others-stay : touched u → (o : ℕ) (w : List ℕ) → o + length w ≤ 202 → OthersStay touched cells (splice middle (unitPlace u + o) w)
@@ -136,6 +141,7 @@ module _ {touched : ℕ → Type 0} {cells middle : List ℕ} {s : Sides} (l : L
             (record {
               room = length-after-holder middle header holder;
               count = count-after-holder middle header holder;
+              index = index-after-holder middle header holder;
               own = own-after-holder middle header holder;
             });
         holds =

@@ -1,19 +1,23 @@
--- A fit does not look at the lent state but for its room, and leaves every side in its initial state: from two states with the same room
--- it leaves states that are the same.
+-- A fit does not look at the lent state but for its room, leaves every side in its initial state, and fills the index by the addresses: from
+-- two states with the same room it leaves states that are the same.
 -- Assumes nothing.
 use mathlib.Core.Bool.{true, not}
 use mathlib.Core.List.{List}
-use mathlib.Core.Path.{_≡_, refl, sym, subst, subst⁻¹, _∙_}
-use Prim.Native.Nat.{ℕ, _≤_, _<_}
+use mathlib.Core.Path.{_≡_, refl, sym, ap, subst, subst⁻¹, _∙_}
+use Prim.Native.Nat.{ℕ, zero, suc, _+_, _*_, _%_, _≤_, _<_}
 use native.Mathlib.Omega.{arith}
 use borrow.Author.Tests.{le-ltb, ltb-false, not-false}
 use lib.Dec.{ltb}
 use lib.ListN.{length}
-use Rattle.cells.specs.Layout.{unitPlace}
+use Rattle.cells.specs.Index.{Indexed, unitWith}
+use Rattle.cells.specs.Layout.{INDEX, countIn, unitPlace, transmitterAddress, receiverAddress}
+use Rattle.cells.specs.Search.{firstOf}
+use Rattle.cells.specs.laws.SearchLaws.{first-agrees}
+use Rattle.codec.specs.Window.{cell}
 use Rattle.fitting.specs.Fit.{fit}
 use Rattle.fitting.specs.SetUp.{countOf, setUpGood}
 use Rattle.fitting.specs.laws.SetUpLaws.{good-says}
-use Rattle.frames.specs.laws.Fits.{fit-ranged}
+use Rattle.frames.specs.laws.Fits.{fit-ranged, fit-indexed}
 use Rattle.frames.specs.laws.Fresh.{fit-length, fit-count, fit-holder, fit-started}
 use Rattle.frames.specs.laws.Leaves.{Agree, alike}
 use Rattle.frames.specs.laws.Sides.{sidesOf}
@@ -22,6 +26,11 @@ use Rattle.pcl.specs.Link.{roomFor, fitCall}
 use Rattle.pcl.specs.declared.answers.FitCall.{FitCall}
 use Rattle.layouts.specs.Same.{Same, SameNumbers}
 use Rattle.layouts.specs.laws.Units.{AlikeCalls, refused}
+
+-- a number beyond 5 bits is looked up by its remainder
+five-bits : (cells : List ℕ) (k a : ℕ) → unitWith cells k a ≡ unitWith cells k (a % 32)
+five-bits cells k a =
+    ap (λ (n : ℕ). pick (ltb (cell cells (INDEX + k * 32 + n)) (countIn cells)) (cell cells (INDEX + k * 32 + n)) 16) (omega arith)
 
 module _ (setup : List ℕ) (good : setUpGood setup ≡ true) (cells other : List ℕ) (alike-room : length other ≡ length cells)
     (room : unitPlace (countOf setup) ≤ length cells) where
@@ -33,6 +42,25 @@ module _ (setup : List ℕ) (good : setUpGood setup ≡ true) (cells other : Lis
       let a = fit-started setup cells good room k there in
       let b = fit-started setup other good too k there in
       record { sendsAs = b .transmitterAt ∙ sym (a .transmitterAt); receivesAs = b .receiverAt ∙ sym (a .receiverAt); memory = b .memory ∙ sym (a .memory) }
+
+  -- each index says what a look through the units says, and that finds the same ones
+  index-by : (k : ℕ) (address : List ℕ → ℕ → ℕ) → ((x : List ℕ) → Indexed x → (n : ℕ) → n < 32 → unitWith x k n ≡ firstOf (address x) n (countIn x) 0)
+      → ((unit : ℕ) → unit < countOf setup → address (fit other setup) unit ≡ address (fit cells setup) unit)
+      → (a : ℕ) → unitWith (fit other setup) k a ≡ unitWith (fit cells setup) k a
+  index-by k address says same a =
+      let n = a % 32 in
+      five-bits (fit other setup) k a
+      ∙ says (fit other setup) (fit-indexed setup other good too) n (omega arith)
+      ∙ ap (λ (m : ℕ). firstOf (address (fit other setup)) n m 0) (fit-count setup other good too)
+      ∙ first-agrees (address (fit other setup)) (address (fit cells setup)) n (countOf setup) 0 (λ unit least below. same unit (omega arith))
+      ∙ ap (λ (m : ℕ). firstOf (address (fit cells setup)) n m 0) (sym (fit-count setup cells good room))
+      ∙ sym (says (fit cells setup) (fit-indexed setup cells good room) n (omega arith))
+      ∙ sym (five-bits (fit cells setup) k a)
+
+  same-index : (k a : ℕ) → k < 2 → unitWith (fit other setup) k a ≡ unitWith (fit cells setup) k a
+  same-index zero a side = index-by 0 transmitterAddress (λ x says. says .transmitter) (λ unit there. same-numbers unit there .sendsAs) a
+  same-index (suc zero) a side = index-by 1 receiverAddress (λ x says. says .receiver) (λ unit there. same-numbers unit there .receivesAs) a
+  same-index (suc (suc k)) a side = absurd (omega arith)
 
   same-sides : Agree (countOf setup) (sidesOf (fit cells setup)) (sidesOf (fit other setup))
   same-sides =
@@ -53,6 +81,7 @@ module _ (setup : List ℕ) (good : setUpGood setup ≡ true) (cells other : Lis
         otherRanged = fit-ranged setup other good too;
         room = fit-length setup other good too ∙ alike-room ∙ sym (fit-length setup cells good room);
         count = fit-count setup other good too ∙ sym count;
+        index = same-index;
         own = λ k there. same-numbers k (subst (λ (n : ℕ). k < n) count there);
         sides = subst⁻¹ (λ (n : ℕ). Agree n (sidesOf (fit cells setup)) (sidesOf (fit other setup))) count same-sides;
       }

@@ -7,6 +7,7 @@ use Prim.Native.Nat.{ℕ, _<_}
 use Rattle.cells.specs.Layout.{countIn}
 use Rattle.cells.specs.Ranges.{inRange}
 use Rattle.cells.specs.laws.FrameLaws.{transmitter-address-kept, receiver-address-kept, memory-length-kept}
+use Rattle.cells.specs.laws.IndexLaws.{with-kept}
 use Rattle.frames.specs.laws.Leaves.{Agree, Holds, Leaves}
 use Rattle.frames.specs.laws.Sides.{Sides, sidesOf}
 use Rattle.layouts.specs.Same.{Same}
@@ -37,6 +38,7 @@ same-all ok =
       otherRanged = ok;
       room = refl;
       count = refl;
+      index = λ k a h. refl;
       own = λ k there. record { sendsAs = refl; receivesAs = refl; memory = refl };
       sides = record { holder = refl; transmitter = λ k there. refl; receiver = λ k there. refl; master = λ k there. refl };
     }
@@ -49,6 +51,7 @@ module _ {a b : List ℕ} (h : Same a b) where
         otherRanged = h .ranged;
         room = sym (h .room);
         count = sym (h .count);
+        index = λ k a side. sym (h .index k a side);
         own = λ k there.
             let o = h .own k (subst (λ (n : ℕ). k < n) (h .count) there) in
             record { sendsAs = sym (o .sendsAs); receivesAs = sym (o .receivesAs); memory = sym (o .memory) };
@@ -62,6 +65,7 @@ module _ {a b : List ℕ} (h : Same a b) where
         otherRanged = g .otherRanged;
         room = g .room ∙ h .room;
         count = g .count ∙ h .count;
+        index = λ k a side. g .index k a side ∙ h .index k a side;
         own = λ k there.
             let first = h .own k there in
             let then = g .own k (subst⁻¹ (λ (n : ℕ). k < n) (h .count) there) in
@@ -82,6 +86,10 @@ module _ {touched here : ℕ → Type 0} {cells other after later : List ℕ} {s
         otherRanged = g .ranged;
         room = g .kept .room ∙ h .room ∙ sym (l .kept .room);
         count = g .kept .count ∙ h .count ∙ sym count;
+        index = λ k a side.
+            with-kept other later (g .kept .index) (g .kept .count) k a side
+            ∙ h .index k a side
+            ∙ sym (with-kept cells after (l .kept .index) count k a side);
         own = λ k there.
             let same = h .own k (subst (λ (n : ℕ). k < n) count there) in
             record {

@@ -15,7 +15,8 @@ use Rattle.cells.specs.Fitted.{Fitted, transmitterOf, receiverOf, masterOf, tra
 use Rattle.cells.specs.Layout.{countIn, unitPlace, transmitterPlace, receiverPlace, masterPlace}
 use Rattle.cells.specs.Ranges.{inRange}
 use Rattle.cells.specs.laws.FittedLaws.{transmitter-within, receiver-within, master-within}
-use Rattle.cells.specs.laws.FrameLaws.{length-kept, count-kept, holder-kept, in-range-kept, window-kept, own-kept, transmitter-address-kept, receiver-address-kept, memory-length-kept}
+use Rattle.cells.specs.laws.FrameLaws.{length-kept, count-kept, holder-kept, index-kept, in-range-kept, window-kept, own-kept, transmitter-address-kept, receiver-address-kept, memory-length-kept}
+use Rattle.cells.specs.laws.IndexLaws.{with-kept}
 use Rattle.cells.specs.laws.RangeLaws.{fitted}
 use Rattle.codec.specs.Ends as E
 use Rattle.codec.specs.Masters as M
@@ -134,6 +135,7 @@ module _ (cells : List ℕ) (u : ℕ) (f : Fitted cells u) where
           otherRanged = in-range-kept cells u f 4 w part ∙ ok;
           room = length-kept cells u f 4 w part;
           count = count-kept cells u f 4 w part;
+          index = with-kept cells after (index-kept cells u f 4 w part) (count-kept cells u f 4 w part);
           own = λ k there.
               record {
                 sendsAs = transmitter-address-kept cells after own k;

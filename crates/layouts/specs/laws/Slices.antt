@@ -11,9 +11,10 @@ use lib.Dec.{eqb, ltb}
 use Rattle.bus.specs.Masterless.{withoutMaster}
 use Rattle.bus.specs.Slice.{masterSlice, slotOf, slicePassed}
 use Rattle.bus.specs.declared.slice.Slot.{Slot}
-use Rattle.cells.specs.Layout.{countIn, holderIn, transmitterAddress, receiverAddress, secondaryIn}
-use Rattle.cells.specs.Search.{firstTransmitter, firstReceiver, firstSecondary}
-use Rattle.cells.specs.laws.SearchLaws.{fitted, first-agrees, secondary-agrees}
+use Rattle.cells.specs.Layout.{countIn, holderIn, secondaryIn}
+use Rattle.cells.specs.Search.{firstSecondary}
+use Rattle.cells.specs.laws.IndexLaws.{index-fitted}
+use Rattle.cells.specs.laws.SearchLaws.{fitted, secondary-agrees}
 use Rattle.frames.specs.laws.Kept.{holder-most}
 use Rattle.frames.specs.laws.Leaves.{Agree, alike}
 use Rattle.frames.specs.laws.Masterless.{masterlessOn, without-leaves}
@@ -70,14 +71,10 @@ module _ (from mask : ℕ) (parity : Bool) where
   module _ {cells other : List ℕ} (h : Same cells other) {s o : Sides} (a : Agree (countIn cells) s o) where
     -- the same unit is found for an address
     unit-same : unitFor other from ≡ unitFor cells from
-    unit-same =
-        ap (λ (n : ℕ). firstTransmitter other n from) (h .count)
-        ∙ first-agrees (transmitterAddress other) (transmitterAddress cells) from (countIn cells) 0 (λ k least below. h .own k (omega arith) .sendsAs)
+    unit-same = h .index 0 from (omega arith)
 
     receiver-same : (t : Transmitter) → receiverFor other t ≡ receiverFor cells t
-    receiver-same t =
-        ap (λ (n : ℕ). firstReceiver other n (destinationOf t)) (h .count)
-        ∙ first-agrees (receiverAddress other) (receiverAddress cells) (destinationOf t) (countIn cells) 0 (λ k least below. h .own k (omega arith) .receivesAs)
+    receiver-same t = h .index 1 (destinationOf t) (omega arith)
 
     found-agrees : (unit : ℕ) → unit < countIn cells → AgreeSlices (countIn cells) (sliceOn cells s unit from mask parity) (sliceOn other o unit from mask parity)
     found-agrees unit there =
@@ -85,14 +82,14 @@ module _ (from mask : ℕ) (parity : Bool) where
         let hears = receiverFor cells t in
         subst (λ (n : ℕ). AgreeSlices (countIn cells) (sliceBy s unit hears from mask parity) (sliceBy o unit n from mask parity))
         (sym (receiver-same t) ∙ ap (receiverFor other) (a .transmitter unit there))
-        (slice-agrees (countIn cells) a unit there hears (λ near. omega (arith, fitted (receiverAddress cells) (destinationOf t) (countIn cells) 0 near)))
+        (slice-agrees (countIn cells) a unit there hears (index-fitted cells 1 (destinationOf t)))
 
     served-agrees : AgreeSlices (countIn cells) (servedOn cells s from mask parity) (servedOn other o from mask parity)
     served-agrees =
         let unit = unitFor cells from in
         subst⁻¹ (λ (n : ℕ). AgreeSlices (countIn cells) (servedBy cells s unit from mask parity) (servedBy other o n from mask parity)) unit-same
         (alike (AgreeSlices (countIn cells)) (ltb unit 16)
-        (λ e. found-agrees unit (omega (arith, fitted (transmitterAddress cells) from (countIn cells) 0 (ltb-true unit 16 e))))
+        (λ e. found-agrees unit (index-fitted cells 0 from (ltb-true unit 16 e)))
         (λ e. record { codes = refl; sides = a }))
 
 -- ---- the call

@@ -13,10 +13,10 @@ use Rattle.bus.specs.Slice.{heardOr, sliceOf, served}
 use Rattle.bus.specs.declared.slice.Given.{Given}
 use Rattle.bus.specs.declared.slice.Slot.{Slot}
 use Rattle.cells.specs.Fitted.{transmitterOf, receiverOf, masterOf, putNext}
+use Rattle.cells.specs.Index.{transmitterWith, receiverWith}
 use Rattle.cells.specs.Layout.{countIn, holderIn}
 use Rattle.cells.specs.laws.FittedLaws.{master-within}
 use Rattle.cells.specs.laws.RangeLaws.{in-range-says, fitted}
-use Rattle.cells.specs.Search.{firstTransmitter, firstReceiver}
 use Rattle.laws.specs.Pick.{either}
 use Rattle.master.specs.laws.Laws.{next-lt}
 use Rattle.master.specs.Section.{nextOf}
@@ -68,11 +68,11 @@ module _ (cells : List ℕ) (mask : ℕ) (parity : Bool) where
   slice-small unit from =
       let t = transmitterOf cells unit in
       either GivesSmall (actsOn (chosen t))
-      (λ e. heard-small unit (firstReceiver cells (countIn cells) (destinationOf t)) from) (λ e. (lit< tt, lit< tt))
+      (λ e. heard-small unit (receiverWith cells (destinationOf t)) from) (λ e. (lit< tt, lit< tt))
 
   served-narrow : (address : ℕ) → address < 32 → Narrow (served cells address mask parity .0)
   served-narrow address h =
-      let unit = firstTransmitter cells (countIn cells) address in
+      let unit = transmitterWith cells address in
       either (λ (p : Given × List ℕ). Narrow (p .0)) (ltb unit 16)
       (λ e. let s = slice-small unit address in (h, s .0, s .1))
       (λ e. (h, lit< tt, lit< tt))

@@ -8,15 +8,16 @@ use lib.ListN.{length, getD}
 use mathlib.Core.Bool.{true}
 use Rattle.cells.specs.Ranges.{inRange}
 use Rattle.cells.specs.Fitted.{transmitterOf, receiverOf, masterOf}
-use Rattle.cells.specs.laws.FrameLaws.{memory-length-kept, receiver-found-kept}
+use Rattle.cells.specs.laws.FrameLaws.{memory-length-kept}
+use Rattle.cells.specs.Index.{receiverWith}
+use Rattle.cells.specs.laws.IndexLaws.{with-kept}
 use Rattle.cells.specs.Layout.{countIn, holderIn, memoryLength}
-use Rattle.cells.specs.Search.{firstReceiver, firstTransmitter}
 use Rattle.delivery.specs.Ends.{Ends}
 use Rattle.promise.specs.Kinds.{Kind, own, other, quiet}
 use Rattle.delivery.specs.laws.Invariant.{Delivering}
 use Rattle.delivery.specs.laws.Slices.{State}
 use Rattle.frames.specs.laws.Leaves.{Leaves, stays, still-fitted}
-use Rattle.frames.specs.laws.Serving.{unit-for-kept}
+use Rattle.frames.specs.laws.Serving.{unit-for-kept, unitFor}
 use Rattle.frames.specs.laws.Sides.{Sides}
 use Rattle.frames.specs.laws.Kept.{Kept, holder-most, kept-all, kept-then}
 use Rattle.master.specs.Cycle.{cycleOf}
@@ -59,14 +60,11 @@ module _ (p : Parties) (start : World) (o : Opens p start) (q : State) (w : Worl
   pub length-same : (k : ℕ) → memoryLength (w .cells) k ≡ memoryLength (start .cells) k
   length-same = memory-length-kept (start .cells) (w .cells) (s .kept .own)
 
-  pub sender-found : firstTransmitter (w .cells) (countIn (w .cells)) (messageIn p start .from) ≡ p .sender
+  pub sender-found : unitFor (w .cells) (messageIn p start .from) ≡ p .sender
   sender-found = unit-for-kept (s .kept) (messageIn p start .from) ∙ o .sends
 
-  pub receiver-found : firstReceiver (w .cells) (countIn (w .cells)) (messageIn p start .to) ≡ p .receiver
-  receiver-found =
-      receiver-found-kept (start .cells) (w .cells) (s .kept .own) (countIn (w .cells)) (messageIn p start .to)
-      ∙ ap (λ (n : ℕ). firstReceiver (start .cells) n (messageIn p start .to)) (s .kept .count)
-      ∙ o .receives
+  pub receiver-found : receiverWith (w .cells) (messageIn p start .to) ≡ p .receiver
+  receiver-found = with-kept (start .cells) (w .cells) (s .kept .index) (s .kept .count) 1 (messageIn p start .to) (omega arith) ∙ o .receives
 
 -- ---- what leaves T and R as they were, of the cells alone
 

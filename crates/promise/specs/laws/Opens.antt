@@ -12,15 +12,18 @@ use Rattle.bus.specs.Masterless.{withoutMaster}
 use Rattle.bus.specs.declared.slice.Given.{Given}
 use Rattle.bus.specs.declared.slice.Slot.{Slot}
 use Rattle.cells.specs.Fitted.{transmitterOf, receiverOf}
-use Rattle.cells.specs.Layout.{countIn, holderIn, receiverAddress, transmitterAddress}
+use Rattle.cells.specs.Layout.{countIn, holderIn, transmitterAddress}
 use Rattle.cells.specs.Ranges.{inRange}
-use Rattle.cells.specs.laws.SearchLaws as Search
-use Rattle.cells.specs.Search.{firstReceiver}
-use Rattle.frames.specs.laws.Serving.{receiverFor, servedOn, unitFor}
+use Rattle.cells.specs.Index.{Indexed, receiverWith}
+use Rattle.cells.specs.laws.IndexLaws.{index-fitted}
+use Rattle.cells.specs.Search.{firstReceiver, firstTransmitter}
+use Rattle.frames.specs.laws.Leaves.{master-within, stays, transmitter-within}
+use Rattle.frames.specs.laws.Serving.{receiver-is, receiverFor, servedOn, unit-has, unit-is, unitFor}
 use Rattle.frames.specs.laws.Sides.{Sides}
-use Rattle.frames.specs.laws.Slices.{nextAddress, nextOn}
+use Rattle.frames.specs.laws.Slices.{master-fitted, nextAddress, nextOn}
 use Rattle.cells.specs.Ranges.{inRange}
 use Rattle.laws.specs.Pick.{by, either, here, past}
+use Rattle.master.specs.laws.Laws.{next-lt}
 use Rattle.pcl.specs.Link.{passedBy, sliceCall}
 use Rattle.pcl.specs.Numbers.{addressOf, sliceNumber, sliceValue}
 use Rattle.pcl.specs.laws.Values as Values
@@ -37,13 +40,14 @@ use Rattle.promise.specs.World.{World}
 -- all that the proof takes from an opening
 pub record Opens (p : Parties) (w : World) : Type 0 where
   pub ranged : inRange (w .cells) ≡ true
+  pub indexed : Indexed (w .cells)
   pub senderFitted : p .sender < countIn (w .cells)
   pub receiverFitted : p .receiver < countIn (w .cells)
   pub mastered : holderIn (w .cells) ≡ p .master + 1
   -- the slice's address is T's, and T and R are those found
   pub given : nextAddress (w .cells) (p .master) ≡ transmitterAddress (w .cells) (p .sender)
   pub sends : unitFor (w .cells) (transmitterAddress (w .cells) (p .sender)) ≡ p .sender
-  pub receives : firstReceiver (w .cells) (countIn (w .cells)) (transmitterOf (w .cells) (p .sender) .modes .destination) ≡ p .receiver
+  pub receives : receiverWith (w .cells) (transmitterOf (w .cells) (p .sender) .modes .destination) ≡ p .receiver
   -- "answered 11"
   pub answered : exchanged (transmitterOf (w .cells) (p .sender)) (receiverOf (w .cells) (p .receiver)) (transmitterAddress (w .cells) (p .sender)) 0 false .codes .b ≡ 3
   pub conditions : AtOpening p w
@@ -88,28 +92,40 @@ module _ (cells : List ℕ) (done : sliceNumber (sliceCall cells 0 0 .0) ≡ 0) 
 
 -- ---- the opening
 
-module _ (w : World) (ok : inRange (w .cells) ≡ true) (m from : ℕ) (mastered : holderIn (w .cells) ≡ m + 1) (same : nextAddress (w .cells) m ≡ from)
+module _ (w : World) (ok : inRange (w .cells) ≡ true) (indexed : Indexed (w .cells)) (m from : ℕ) (mastered : holderIn (w .cells) ≡ m + 1) (same : nextAddress (w .cells) m ≡ from)
     (b : servedOn (w .cells) (nextOn (w .cells) m) from 0 false .0 .b ≡ 3) where
   abbrev cells : List ℕ
   cells = w .cells
 
   abbrev p : Parties
-  p = record { sender = unitFor cells from; receiver = receiverFor cells (transmitterOf cells (unitFor cells from)); master = m }
+  p =
+      let sender = firstTransmitter cells (countIn cells) from in
+      record { sender = sender; receiver = firstReceiver cells (countIn cells) (destinationOf (transmitterOf cells sender)); master = m }
 
   found : AtOpening p w → Opens p w
   found c =
       let (near, nearThere, answered) = heard-by cells (nextOn cells m) from b in
+      let number : from < 32 = subst (λ (a : ℕ). a < 32) same (next-lt _ (master-within (stays ok) m (master-fitted cells ok 0 false m mastered))) in
+      let e : unitFor cells from ≡ p .sender = unit-is cells indexed from number in
+      let fitted : p .sender < countIn cells = subst (λ (u : ℕ). u < countIn cells) e (index-fitted cells 0 from near) in
       let t = transmitterOf cells (p .sender) in
-      let has : transmitterAddress cells (p .sender) ≡ from = Search.found (transmitterAddress cells) from (countIn cells) 0 near in
+      let f : receiverFor cells t ≡ p .receiver = receiver-is cells indexed t (transmitter-within (stays ok) (p .sender) fitted) in
+      let has : transmitterAddress cells (p .sender) ≡ from = subst (λ (u : ℕ). transmitterAddress cells u ≡ from) e (unit-has cells indexed from number near) in
       record {
         ranged = ok;
-        senderFitted = omega (arith, Search.fitted (transmitterAddress cells) from (countIn cells) 0 near);
-        receiverFitted = omega (arith, Search.fitted (receiverAddress cells) (destinationOf t) (countIn cells) 0 nearThere);
+        indexed = indexed;
+        senderFitted = fitted;
+        receiverFitted =
+            subst (λ (u : ℕ). u < countIn cells) f
+            (index-fitted cells 1 (destinationOf t) (subst (λ (u : ℕ). receiverFor cells (transmitterOf cells u) < 16) e nearThere));
         mastered = mastered;
         given = same ∙ sym has;
-        sends = ap (unitFor cells) has;
-        receives = ap (firstReceiver cells (countIn cells)) (past _ (c .transmitterClosed) refl);
-        answered = subst⁻¹ (λ (a : ℕ). exchanged t (receiverOf cells (p .receiver)) a 0 false .codes .b ≡ 3) has answered;
+        sends = ap (unitFor cells) has ∙ e;
+        receives = ap (receiverWith cells) (past _ (c .transmitterClosed) refl) ∙ f;
+        answered =
+            subst⁻¹ (λ (a : ℕ). exchanged t (receiverOf cells (p .receiver)) a 0 false .codes .b ≡ 3) has
+            (subst (λ (v : ℕ). exchanged t (receiverOf cells v) from 0 false .codes .b ≡ 3) f
+            (subst (λ (u : ℕ). exchanged (transmitterOf cells u) (receiverOf cells (receiverFor cells (transmitterOf cells u))) from 0 false .codes .b ≡ 3) e answered));
         conditions = c;
       }
 
@@ -138,6 +154,6 @@ opens w o =
     let slot : slotIn cells 0 false m ≡ Slot.Given g =
     ap (λ (r : SliceCall × List ℕ). slotIs (r .0)) (sym (slice-call cells ok 0 0 m mastered refl)) ∙ ap slotIs is in
     let same : nextAddress cells m ≡ from = ap addressGiven slot ∙ sym (shows .address) in
-    found w ok m from mastered same
+    found w ok (o .indexed) m from mastered same
     (subst (λ (a : ℕ). servedOn cells (nextOn cells m) a 0 false .0 .b ≡ 3) same (ap answerGiven slot ∙ sym (shows .b) ∙ o .acknowledged))
     (o .conditions)

@@ -2,23 +2,26 @@
 -- Assumes nothing.
 use mathlib.Core.Bool.{Bool}
 use mathlib.Core.List.{List}
-use mathlib.Core.Path.{_≡_, refl, ap, subst, subst⁻¹, sym, _∙_}
+use mathlib.Core.Path.{_≡_, refl, ap, subst, sym, _∙_}
 use Prim.Native.Nat.{ℕ, _<_}
 use Rattle.bus.specs.Slice.{slicePassed}
 use Rattle.cells.specs.Fitted.{transmitterOf, receiverOf}
-use Rattle.cells.specs.Layout.{countIn, transmitterAddress}
-use Rattle.cells.specs.laws.SearchLaws as Search
+use Rattle.cells.specs.Layout.{transmitterAddress}
+use Rattle.cells.specs.laws.FrameLaws.{transmitter-address-kept}
 use Rattle.delivery.specs.Ends.{Ends, Message}
 use Rattle.promise.specs.Kinds.{other}
 use Rattle.delivery.specs.laws.Others.{others}
 use Rattle.delivery.specs.laws.Slices.{State}
 use Rattle.frames.specs.laws.Others.{slice-holder, slice-other-transmitter}
-use Rattle.frames.specs.laws.Serving.{in-each, receiverFor, unitFor}
+use Rattle.frames.specs.laws.Kept.{indexed-kept}
+use Rattle.frames.specs.laws.Leaves.{master-within, stays}
+use Rattle.frames.specs.laws.Serving.{in-each, receiverFor, unit-has, unitFor}
 use Rattle.frames.specs.laws.Sides.{Sides, replaced-same}
 use Rattle.frames.specs.laws.Slices.{nextAddress, nextOn, slice-passes}
+use Rattle.master.specs.laws.Laws.{next-lt}
 use Rattle.slices.specs.Slice.{exchanged}
 use Rattle.promise.specs.laws.SliceCalls.{ring-first, ring-turns}
-use Rattle.promise.specs.laws.Follows.{Follows, Spares, receiver-fitted, sender-found, sender-fitted, sender-near, spared}
+use Rattle.promise.specs.laws.Follows.{Follows, Spares, master-fitted, receiver-fitted, sender-fitted, sender-near, spared}
 use Rattle.promise.specs.Opening.{Parties, endsOf, messageIn}
 use Rattle.promise.specs.laws.Opens.{Opens}
 use Rattle.promise.specs.laws.Standing.{Standing}
@@ -41,9 +44,10 @@ module _ (p : Parties) (start : World) (o : Opens p start) (q : State) (w : Worl
     -- T is not the transmitter addressed: no unit has two addresses
     not-sender : p .sender ≡ unitFor (w .cells) address → ⊥
     not-sender e =
-        let has = Search.found (transmitterAddress (w .cells)) (m .from) (countIn (w .cells)) 0 (subst⁻¹ (λ (u : ℕ). u < 16) (sender-found p start o q w s) (sender-near p start o q w s)) in
-        let gets = Search.found (transmitterAddress (w .cells)) address (countIn (w .cells)) 0 (subst (λ (u : ℕ). u < 16) e (sender-near p start o q w s)) in
-        theirs (sym gets ∙ ap (transmitterAddress (w .cells)) (sym e ∙ sym (sender-found p start o q w s)) ∙ has)
+        let has = transmitter-address-kept (start .cells) (w .cells) (s .kept .own) (p .sender) in
+        let number : address < 32 = next-lt _ (master-within (stays (s .ranged)) (p .master) (master-fitted p start o q w s)) in
+        let gets = unit-has (w .cells) (indexed-kept (s .kept) (o .indexed)) address number (subst (λ (u : ℕ). u < 16) e (sender-near p start o q w s)) in
+        theirs (sym gets ∙ ap (transmitterAddress (w .cells)) (sym e) ∙ has)
 
     spares : Spares p (w .cells) after
     spares =

@@ -9,8 +9,7 @@ use lib.Dec.{eqb, ltb}
 use lib.ListN.{length}
 use Rattle.bus.specs.Slice.{slicePassed}
 use Rattle.cells.specs.Fitted.{transmitterOf, receiverOf}
-use Rattle.cells.specs.Layout.{countIn}
-use Rattle.cells.specs.Search as Search
+use Rattle.cells.specs.Index.{receiverWith}
 use Rattle.delivery.specs.laws.Calls.{MovedUntil4, with}
 use Rattle.delivery.specs.Ends.{Ends, Message}
 use Rattle.promise.specs.Kinds.{Kind, own, other, kindOf, sliceKind}
@@ -58,7 +57,7 @@ module _ (p : Parties) (start : World) (o : Opens p start) (q : State) (w : Worl
     heard =
         slice-heard (w .cells) (s .ranged) mask parity (p .master) (s .mastered) (p .sender)
         (ap (unitFor (w .cells)) mine ∙ sender-found p start o q w s) (sender-near p start o q w s) (p .receiver)
-        (ap (Search.firstReceiver (w .cells) (countIn (w .cells))) (addressed m q x (s .delivering)) ∙ receiver-found p start o q w s) (receiver-near p start o q w s)
+        (ap (receiverWith (w .cells)) (addressed m q x (s .delivering)) ∙ receiver-found p start o q w s) (receiver-near p start o q w s)
 
     own-follows : mask ≡ 0 → parity ≡ false → MovedUntil4 m x → Follows p start q w own (withCells w after)
     own-follows none even until =
