@@ -2,7 +2,9 @@
  * which is plain C. A load runs on both in turn, several times: the lowest time
  * of each is printed, and the median of the ratios of two runs that followed
  * each other. How many slices and moves the archive does in place, by the plain
- * way of crates/plain, is counted in one more run, which is not timed.
+ * way of crates/plain, is counted in one more run, which is not timed. The table
+ * goes on with the archive's calls for all sides, or for all words of a side, beside
+ * what they stand for.
  *
  * bench table SCALE    for 2 units and for 16
  * bench curve SCALE    a line for each count of units: units, then for each load the time of a slice of the archive and of plain C,
@@ -103,11 +105,11 @@ static void begin_message(const struct library *library, uint32_t units, uint32_
     must(library->write(r, PCL_RSR, 0));
     must(library->write(r, PCL_RDBA, 0));
     must(library->write(r, PCL_RDBC, (uint16_t)(-2 * MESSAGE)));
-    must(library->write(r, PCL_RCR, PCL_RCR_RC_NPR | PCL_RCR_RCV_WD | PCL_RCR_RCV_DAT | PCL_RCR_EA17));
+    must(library->write(r, PCL_RCR, PCL_RCR_RC_NPR | PCL_RCR_IE | PCL_RCR_RCV_WD | PCL_RCR_RCV_DAT | PCL_RCR_EA17));
     must(library->write(u, PCL_TSR, 0));
     must(library->write(u, PCL_TSBA, 0));
     must(library->write(u, PCL_TSBC, (uint16_t)(-2 * MESSAGE)));
-    must(library->write(u, PCL_TCR, (uint16_t)PCL_TCR_DESTINATION(r + 1) | PCL_TCR_TX_NPR | PCL_TCR_SND_WD | PCL_TCR_ST_TXM));
+    must(library->write(u, PCL_TCR, (uint16_t)PCL_TCR_DESTINATION(r + 1) | PCL_TCR_TX_NPR | PCL_TCR_IE | PCL_TCR_SND_WD | PCL_TCR_ST_TXM));
 }
 
 /* Up to 2 units the master counts; with more its address silo has 50 addresses, or the largest multiple of the units below that. */
@@ -220,6 +222,134 @@ static void print_share(const struct count *count)
         printf(" %10s", "-");
 }
 
+/* ---- a call for all, beside single ones */
+
+enum { SERVED = 16, A_SILO = 64, TIMES = 20000 };
+
+static uint16_t prepared[PCL_CELLS_MOST];
+static size_t prepared_size;
+
+static void again(void) { memcpy(cells, prepared, prepared_size); }
+
+static void ask_for_all(void)
+{
+    if (pcl_number(pcl_wants_moves(cells, PCL_CELLS_MOST) | pcl_wants_interrupts(cells, PCL_CELLS_MOST)) != PCL_DONE)
+        fail("sides refused", 0);
+}
+
+static void ask_each(void)
+{
+    for (uint32_t u = 0; u < SERVED; u++)
+        for (uint32_t side = 0; side < 2; side++) {
+            if (archive_move(u, side) != PCL_NOTHING)
+                fail("there is something to move", u);
+            pcl_level(cells, PCL_CELLS_MOST, u, side);
+        }
+}
+
+/* A slice, and its moves. */
+static void serve_one(void)
+{
+    uint32_t answer = archive_slice(), u = pcl_address(answer) - 1;
+
+    if (u >= SERVED)
+        fail("a slice of nobody", answer);
+    move_words(&archive, &loads[0], u, PCL_TRANSMITTER);
+    move_words(&archive, &loads[0], partner(SERVED, u), PCL_RECEIVER);
+}
+
+static uint32_t moving_side;
+
+static void move_at_once(void)
+{
+    again();
+    if (pcl_words_moved(pcl_move_all(cells, PCL_CELLS_MOST, memory[0], PCL_MEMORY_MOST, 0, moving_side)) != A_SILO)
+        fail("not a silo of words", moving_side);
+}
+
+static void move_in_turn(void)
+{
+    uint32_t words = 0;
+
+    again();
+    while (archive_move(0, moving_side) == PCL_DONE)
+        words++;
+    if (words != A_SILO)
+        fail("not a silo of words", words);
+}
+
+static void prepare(uint32_t units)
+{
+    prepared_size = PCL_CELLS(units) * sizeof cells[0];
+    memcpy(prepared, cells, prepared_size);
+}
+
+/* Every side of every unit in mid-message, with nothing more to move. */
+static void prepare_sides(void)
+{
+    set_up(&archive, SERVED, &loads[0]);
+    for (uint32_t i = 0; i < 10 * SERVED; i++)
+        serve_one();
+    prepare(SERVED);
+}
+
+/* Unit 0 sends to itself, and has a silo of words to fetch, or to store. */
+static void prepare_words(uint32_t side)
+{
+    set_up(&archive, 1, &loads[0]);
+    for (uint32_t i = 0; side == PCL_RECEIVER && i < A_SILO; ) {
+        move_words(&archive, &loads[0], 0, PCL_TRANSMITTER);
+        i += pcl_b(archive_slice()) == PCL_B_ACKNOWLEDGE;
+    }
+    moving_side = side;
+    prepare(1);
+}
+
+static double time_of_call(void (*call)(void))
+{
+    double begun = now();
+
+    for (uint32_t i = 0; i < TIMES; i++)
+        call();
+    return (now() - begun) / TIMES;
+}
+
+static void print_beside(const char *name, uint32_t units, bool relative, void (*all)(void), void (*single)(void))
+{
+    double alls[ROUNDS], singles[ROUNDS], ratios[ROUNDS];
+
+    for (unsigned i = 0; i < ROUNDS; i++) {
+        again();
+        alls[i] = time_of_call(all);
+        again();
+        singles[i] = time_of_call(single);
+        ratios[i] = singles[i] / alls[i];
+    }
+    qsort(alls, ROUNDS, sizeof alls[0], by_size);
+    qsort(singles, ROUNDS, sizeof singles[0], by_size);
+    qsort(ratios, ROUNDS, sizeof ratios[0], by_size);
+    printf("%-36s %5u", name, (unsigned)units);
+    if (!relative)
+        printf(" %12.1f %12.1f", alls[0], singles[0]);
+    printf(" %8.2f\n", ratios[ROUNDS / 2]);
+}
+
+static void table_of_calls_for_all(bool relative)
+{
+    printf("%-36s %5s", "one call, beside", "units");
+    if (!relative)
+        printf(" %12s %12s", "one, ns", "beside, ns");
+    printf(" %8s\n", "ratio");
+    prepare_sides();
+    print_beside("who wants service, 64 calls", SERVED, relative, ask_for_all, ask_each);
+    print_beside("who wants service, a slice", SERVED, relative, ask_for_all, serve_one);
+    prepare_words(PCL_TRANSMITTER);
+    print_beside("64 words fetched, 65 moves", 1, relative, move_at_once, move_in_turn);
+    prepare_words(PCL_RECEIVER);
+    print_beside("64 words stored, 65 moves", 1, relative, move_at_once, move_in_turn);
+    printf("who wants service: pcl_wants_moves and pcl_wants_interrupts together, all units sending; a slice is with its moves until 4\n");
+}
+
 static void table(bool relative)
 {
     printf("%-36s %5s", "load", "units");
@@ -242,6 +372,7 @@ static void table(bool relative)
         }
     printf("ratio: how many times as fast as plain C the archive is, the median of %d pairs of runs\n", ROUNDS);
     printf("slices and moves: how many of the archive's are done in place, by the plain way of crates/plain, rounded down\n");
+    table_of_calls_for_all(relative);
 }
 
 static void curve(bool relative)

@@ -55,9 +55,6 @@ static unsigned host_read(uint32_t host, uint32_t offset)
     return pcl_value(checked(pcl_read(cells, PCL_CELLS(HOSTS), host, offset)));
 }
 
-/* Minus the bytes of so many words, as TSBC and RDBC take it. */
-static unsigned count_of(unsigned words) { return (0200000 - 2 * words) & 0177777; }
-
 /* ---- the programs of the two hosts */
 
 /* A builds the message in its memory and sends it. How many words it has. */
@@ -72,7 +69,7 @@ static unsigned send(void)
     }
     host_write(A, PCL_TSR, 0);                                  /* what an earlier message left there */
     host_write(A, PCL_TSBA, POINT);
-    host_write(A, PCL_TSBC, count_of(words));
+    host_write(A, PCL_TSBC, pcl_byte_count(words));
     host_write(A, PCL_TCR, PCL_TCR_DESTINATION(RECEIVER_B) | PCL_TCR_TX_NPR | PCL_TCR_SND_WD | PCL_TCR_ST_TXM);
     return words;
 }
@@ -81,7 +78,7 @@ static unsigned send(void)
 static void get_ready(void)
 {
     host_write(B, PCL_RCR, PCL_RCR_RC_INIT);
-    host_write(B, PCL_RDBC, count_of(BOARD_WORDS_MOST));
+    host_write(B, PCL_RDBC, pcl_byte_count(BOARD_WORDS_MOST));
     host_write(B, PCL_RDBA, BUFFER);
     host_write(B, PCL_RCR, PCL_RCR_RC_NPR | PCL_RCR_RCV_WD | PCL_RCR_RCV_DAT);
 }

@@ -47,14 +47,11 @@ static void be_master(uint32_t host)
     checked(pcl_write_byte(cells, PCL_CELLS(HOSTS), host, PCL_TMMR + 1, (PCL_TMMR_MASTER | PCL_TMMR_AUT_ADR) >> 8));
 }
 
-/* Minus the bytes of so many words, as TSBC and RDBC take it. */
-static unsigned count_of(unsigned words) { return (0200000 - 2 * words) & 0177777; }
-
 /* Computer B's program: a buffer, and ready for a message. */
 static void receive(unsigned buffer, unsigned words)
 {
     host_write(B, PCL_RCR, PCL_RCR_RC_INIT);
-    host_write(B, PCL_RDBC, count_of(words));
+    host_write(B, PCL_RDBC, pcl_byte_count(words));
     host_write(B, PCL_RDBA, buffer);
     host_write(B, PCL_RCR, PCL_RCR_RC_NPR | PCL_RCR_RCV_WD | PCL_RCR_RCV_DAT);
 }
@@ -63,21 +60,24 @@ static void receive(unsigned buffer, unsigned words)
 static void send(unsigned point, unsigned words, unsigned receiver)
 {
     host_write(A, PCL_TSBA, point);
-    host_write(A, PCL_TSBC, count_of(words));
+    host_write(A, PCL_TSBC, pcl_byte_count(words));
     host_write(A, PCL_TCR, PCL_TCR_DESTINATION(receiver) | PCL_TCR_TX_NPR | PCL_TCR_SND_WD | PCL_TCR_ST_TXM);
 }
 
-/* All the words that a silo has room for, or has to give. */
-static void move_all(uint32_t host, uint32_t side)
+/* All the words that the silos have room for, or have to give. */
+static void move_words(void)
 {
-    while (pcl_number(pcl_move(cells, PCL_CELLS(HOSTS), memory[host], MEMORY, host, side)) == PCL_DONE)
-        ;
+    uint32_t sides = pcl_sides(pcl_wants_moves(cells, PCL_CELLS(HOSTS)));
+
+    for (uint32_t host = 0; host < HOSTS; host++)
+        for (uint32_t side = 0; side < 2; side++)
+            if (sides & pcl_side_bit(host, side))
+                pcl_move_all(cells, PCL_CELLS(HOSTS), memory[host], MEMORY, host, side);
 }
 
 static void bus(void)
 {
-    move_all(A, PCL_TRANSMITTER);
-    move_all(B, PCL_RECEIVER);
+    move_words();
     checked(pcl_slice(cells, PCL_CELLS(HOSTS), 0, 0));
 }
 
@@ -113,7 +113,7 @@ static int pass(const char *text, unsigned words)
         printf("failed: TSR %06o, RSR %06o\n", host_read(A, PCL_TSR), host_read(B, PCL_RSR));
         return 0;
     }
-    printf("%u words from transmitter %u, complete after %u slices:\n", words, host_read(B, PCL_RCR) >> 8 & 31, slices);
+    printf("%u words from transmitter %u, complete after %u slices:\n", words, pcl_sender(host_read(B, PCL_RCR)), slices);
     for (unsigned i = 0; i < words; i++)
         printf("%c%c", memory[B][BUFFER / 2 + i] & 255, memory[B][BUFFER / 2 + i] >> 8);
     printf("\nCRC sent %06o, received %06o\n", host_read(A, PCL_TSCRC), host_read(B, PCL_RDCRC));

@@ -49,9 +49,6 @@ static unsigned host_read(uint32_t host, uint32_t offset)
     return pcl_value(checked(pcl_read(cells, PCL_CELLS(HOSTS), host, offset)));
 }
 
-/* Minus the bytes of so many words, as TSBC and RDBC take it. */
-static unsigned count_of(unsigned words) { return (0200000 - 2 * words) & 0177777; }
-
 /* ---- the programs of the two hosts */
 
 /* A's transmitter is given a message for B. */
@@ -62,7 +59,7 @@ static void send(const char *text)
     for (unsigned i = 0; i < words; i++)                        /* the low byte first */
         memory[A][POINT / 2 + i] = (uint16_t)(text[2 * i] | text[2 * i + 1] << 8);
     host_write(A, PCL_TSBA, POINT);
-    host_write(A, PCL_TSBC, count_of(words));
+    host_write(A, PCL_TSBC, pcl_byte_count(words));
     host_write(A, PCL_TCR, PCL_TCR_DESTINATION(RECEIVER_B) | PCL_TCR_TX_NPR | PCL_TCR_SND_WD | PCL_TCR_ST_TXM);
 }
 
@@ -81,7 +78,7 @@ static void receive(void)
 {
     memset(memory[B], 0, sizeof memory[B]);
     host_write(B, PCL_RCR, PCL_RCR_RC_INIT);
-    host_write(B, PCL_RDBC, count_of(MEMORY / 2));
+    host_write(B, PCL_RDBC, pcl_byte_count(MEMORY / 2));
     host_write(B, PCL_RDBA, BUFFER);
     host_write(B, PCL_RCR, PCL_RCR_RC_NPR | PCL_RCR_RCV_WD | PCL_RCR_RCV_DAT);
 }
@@ -91,8 +88,7 @@ static void receive(void)
 /* All the words that a silo has room for, or has to give. */
 static void move_all(uint32_t host, uint32_t side)
 {
-    while (pcl_number(pcl_move(cells, PCL_CELLS(HOSTS), memory[host], MEMORY, host, side)) == PCL_DONE)
-        ;
+    pcl_move_all(cells, PCL_CELLS(HOSTS), memory[host], MEMORY, host, side);
 }
 
 /* Slices up to A's turn; B's buffer has what came. The answer of that slice. */
@@ -157,7 +153,7 @@ static void show_receiver(void)
     else if (rsr & PCL_RSR_SUC_TXF)
         printf("SUC TXF, a whole message has come");
     else if (rsr & PCL_RSR_CHN_OPN)
-        printf("a message from transmitter %u is under way", host_read(B, PCL_RCR) >> 8 & 31);
+        printf("a message from transmitter %u is under way", pcl_sender(host_read(B, PCL_RCR)));
     else
         printf("at rest, ready for a message");
     printf(".\n   B's buffer, %u words: %s", words, words ? "headings" : "empty");

@@ -8,14 +8,14 @@
  * What is lent. Cells, memories and set-ups are lent for one call and are the
  * caller's again when it returns. A pointer is not null and is aligned for its
  * type, and as many elements stand there as the length says; the length counts
- * elements, never bytes. The cells and the memory lent to one pcl_move do not
- * overlap, and nothing else reads or writes what is lent while a call runs. So
- * calls on one link come one after the other; calls on different links may run
- * at the same time. Between calls the cells may be copied, stored and loaded
- * again, in another process too: docs/STATE.md says what each of them holds.
- * Only the first two cells can be out of range. Whatever the others hold has a
- * meaning. One call can answer PCL_BAD_ROOM for it: pcl_move, which
- * asks as much memory as the cells of its unit say.
+ * elements, never bytes. The cells and the memory lent to one call do not overlap,
+ * and nothing else reads or writes what is lent while a call runs. So calls on one
+ * link come one after the other; calls on different links may run at the same
+ * time. Between calls the cells may be copied, stored and loaded again, in another
+ * process too: docs/STATE.md says what each of them holds. Only the first two
+ * cells can be out of range. Whatever the others hold has a meaning.
+ * Two calls can answer PCL_BAD_ROOM for it: pcl_move and pcl_move_all, which ask as
+ * much memory as the cells of their unit say.
  *
  * What comes back. Every call takes every argument, ends, and answers a number
  * with a value above it; pcl_number() and pcl_value() take an answer apart. A
@@ -28,10 +28,13 @@
  * What stays with the host, the emulator around the calls:
  *
  * - Time. Nothing here measures it: a slice is served when pcl_slice is called,
- *   and a word moves when pcl_move is. On the hardware a slice takes 2
- *   microseconds, up to 5 on a long bus (the manual's 2.3 and 3.3.1), and every
- *   NPR cycle is a move. pcl_period has the time-outs.
- * - Interrupts. pcl_level is a level and no edge; there stands what follows.
+ *   and words move when pcl_move or pcl_move_all is. On the hardware a slice
+ *   takes 2 microseconds, up to 5 on a long bus (the manual's 2.3 and 3.3.1), and
+ *   every NPR cycle is a move. pcl_period has the time-outs.
+ * - Service. After a slice pcl_wants_moves says at which sides of all units a move
+ *   is due, pcl_move_all makes the moves of a side, and then pcl_wants_interrupts
+ *   says which sides ask for an interrupt.
+ * - Interrupts. They are levels and no edges; at pcl_level stands what follows.
  * - The Unibus. With the manual's own addresses an offset here is an address
  *   there less PCL_UNIBUS_TRANSMITTER, at both sides, but for one register: RDCRC
  *   is at 26 here, and at 28 in the manual's map. Where PCL_NO_REGISTER comes at
@@ -50,7 +53,8 @@
  * - Errors. ERR stops the moves of its side. Where a program clears the bit
  *   without INIT and the host goes on moving, the same move is tried again: NXL
  *   comes again at the same address, and BC OFL until RDBC is loaded, each with a
- *   request that clears the command bits.
+ *   request that clears the command bits. Memory overflow makes such a request too;
+ *   after it the word was moved, and the moves go on at address 0.
  *
  * docs/MANUAL.md has each place where a PDP-11 program sees something else than
  * the PCL11-B manual says, with what to write instead. pcl_text.h has the names
@@ -81,9 +85,10 @@ enum {
 
 enum { PCL_TRANSMITTER = 0, PCL_RECEIVER = 1 };
 
-/* The version of what this header declares and promises: 100 x 1 + 0 is 1.0. */
-#define PCL_VERSION 100
-#define PCL_VERSION_TEXT "1.0"
+/* The version of what this header declares and promises: 100 x 1 + 1 is 1.1, from
+ * which on there are pcl_wants_moves, pcl_wants_interrupts and pcl_move_all. */
+#define PCL_VERSION 101
+#define PCL_VERSION_TEXT "1.1"
 
 /* The layout of the cells, the one that docs/STATE.md describes. It rises when a
  * cell comes to mean something else. The cells do not hold it, and no call tells
@@ -177,20 +182,32 @@ static inline uint32_t pcl_bus_address(unsigned command, uint16_t word)
 
 /* An answer taken apart. The value is 0 but with PCL_DONE from pcl_read (the
  * word), pcl_level (0 or 1), pcl_serial (the serial), pcl_slice (the address
- * served, and the response codes A and B, 0 to 3) and pcl_move (the address that
- * was missing). A move answers 64 bits, since an address has 18; an answer of 32 bits is taken too.
- * Keep a move's answer in 64 bits, and compare pcl_number(answer), not the
- * answer, with a number: PCL_DONE has a value where the move set NXL. */
+ * served, and the response codes A and B, 0 to 3), pcl_move (the address that was
+ * missing), pcl_move_all (that address and the words moved), pcl_wants_moves and
+ * pcl_wants_interrupts (the sides). The last four answer 64 bits, since their
+ * values have more than 16; an answer of 32 bits is taken too. Keep such an answer
+ * in 64 bits, and compare pcl_number(answer), not the answer, with a number:
+ * PCL_DONE has a value where a move set NXL, where words were moved at once, and
+ * where a side wants service. */
 static inline unsigned pcl_number(uint64_t answer) { return (unsigned)(answer & 0xFFFF); }
 static inline unsigned pcl_value(uint64_t answer) { return (unsigned)(answer >> 16); }
 static inline unsigned pcl_address(uint32_t answer) { return pcl_value(answer) & 31; }
 static inline unsigned pcl_a(uint32_t answer) { return pcl_value(answer) >> 5 & 3; }
 static inline unsigned pcl_b(uint32_t answer) { return pcl_value(answer) >> 7 & 3; }
 
-/* The byte address that a pcl_move tried, where that call set NXL: TSBA or RDBA
- * with EA17 and EA16 above it, as they still stand, 18 bits and even. 0 where the
- * call did not set NXL: address 0 lies inside every memory. */
-static inline uint32_t pcl_missing(uint64_t answer) { return pcl_value(answer); }
+/* The byte address that a pcl_move or pcl_move_all tried, where that call set NXL:
+ * TSBA or RDBA with EA17 and EA16 above it, as they still stand, 18 bits and even.
+ * 0 where the call did not set NXL: address 0 lies inside every memory. */
+static inline uint32_t pcl_missing(uint64_t answer) { return pcl_value(answer) & 0777777; }
+
+/* How many words a pcl_move_all moved, 0 to 64. */
+static inline uint32_t pcl_words_moved(uint64_t answer) { return pcl_value(answer) >> 18; }
+
+/* The sides that pcl_wants_moves or pcl_wants_interrupts names, one bit each, and the
+ * bit of a side: bit u is the transmitter of unit u, bit 16 + u its receiver. A unit
+ * is below 16 and a side 0 or 1: others count by their remainders. */
+static inline uint32_t pcl_sides(uint64_t answer) { return pcl_value(answer); }
+static inline uint32_t pcl_side_bit(uint32_t unit, uint32_t side) { return (uint32_t)1 << ((unit & 15) + 16 * (side & 1)); }
 
 /* Makes a link. The set-up has four numbers for each unit: transmitter address
  * and receiver address (1 to 31; no two transmitters have the same, and no two
@@ -235,6 +252,28 @@ uint32_t pcl_slice(uint16_t *cells, size_t cells_length, uint16_t data_mask, uin
  * has room. Answers 0 with that address or 0; 1, 4, 9. */
 uint64_t pcl_move(uint16_t *cells, size_t cells_length, uint16_t *memory, size_t memory_length, uint32_t unit, uint32_t side);
 
+/* All the moves of a side at once: what pcl_move does, again and again until it
+ * would answer 4, or has set NXL, BC OFL or memory overflow, each of which stops the
+ * moves of its side. It is lent what pcl_move is lent, and leaves what so many
+ * single calls leave. pcl_words_moved() is how many words were moved, at most the 64
+ * of a silo, and pcl_missing() the address where NXL was set; that word, and one that
+ * met BC OFL, is not counted. A word at 777776, after which memory overflow is set
+ * unless INH ADI stands, is. 0 with no word and no address is BC OFL at once; with
+ * words and no address the status register says whether BC OFL or memory overflow
+ * ended it, or nothing did but that there was no more to move. 4 where the first move
+ * would answer 4. Answers 0 with both; 1, 4, 9. */
+uint64_t pcl_move_all(uint16_t *cells, size_t cells_length, uint16_t *memory, size_t memory_length, uint32_t unit, uint32_t side);
+
+/* At which sides of all units a move is due: a bit is set where a pcl_move that is
+ * lent enough memory would not answer 4, be it that the move only sets NXL or BC OFL,
+ * or brings words that an earlier message left; where less is lent it answers 9, and
+ * the bit stays. So a host that has done these moves, by pcl_move_all, needs no other
+ * before the next slice; between slices a write of a program may start a transfer,
+ * and then its bit is set too. pcl_sides() has the bits, those of units that are not
+ * fitted clear. Asking changes nothing.
+ * Answers 0 with the sides; 9. */
+uint64_t pcl_wants_moves(const uint16_t *cells, size_t cells_length);
+
 /* A period of time has passed for a unit, at both of its sides: at a transmitter
  * that is BUSY, or a receiver whose channel is open, the second in a row sets TIM
  * OUT, unless a word was accepted in between or it was not BUSY or not open. On
@@ -259,6 +298,14 @@ uint32_t pcl_reset(uint16_t *cells, size_t cells_length, uint32_t unit);
  * sets it again from the level when the routine has returned, or the second of two
  * events in one routine is lost. Answers 0 with 0 or 1; 1, 9. */
 uint32_t pcl_level(const uint16_t *cells, size_t cells_length, uint32_t unit, uint32_t side);
+
+/* The level of every side of all units at once, one bit each, as pcl_wants_moves has
+ * them: set where pcl_level would answer 0 with 1, clear where it would answer 0 with
+ * 0, or PCL_NOT_FITTED. They are the levels of this moment. A slice may change that of
+ * any side, a move that of its own; a write, a read of RDDB, a period and a reset
+ * those of their unit, and a fit all: after each a host asks again, or asks pcl_level.
+ * Answers 0 with the sides; 9. */
+uint64_t pcl_wants_interrupts(const uint16_t *cells, size_t cells_length);
 
 /* The serial of the last opening at a side, also after the channel closed. The
  * slice of an opening adds one at the transmitter, and after 65,535 starts again

@@ -182,32 +182,41 @@ void device_period(struct bus *bus, uint32_t unit)
 static void move_words(struct bus *bus, uint32_t unit, uint32_t side)
 {
     const struct device *device = &bus->device[unit];
-    uint64_t answer;
+    uint64_t answer = checked(pcl_move_all(bus->cells, cells_length(bus), device->memory, device->memory_words, unit, side));
 
-    do {
-        answer = checked(pcl_move(bus->cells, cells_length(bus), device->memory, device->memory_words, unit, side));
-        if (pcl_missing(answer) != 0)
-            bus->missing = pcl_missing(answer);
-    } while (pcl_number(answer) == PCL_DONE);
+    if (pcl_missing(answer) != 0)
+        bus->missing = pcl_missing(answer);
 }
 
-/* What every side of every unit wants of its machine: words moved before a slice, an interrupt after it. */
-static void service(struct bus *bus, void (*serve)(struct bus *bus, uint32_t unit, uint32_t side))
+/* Words are moved before a slice, at the sides that have any. */
+static void move_all_words(struct bus *bus)
 {
-    for (uint32_t unit = 0; unit < bus->units; unit++) {
-        serve(bus, unit, PCL_TRANSMITTER);
-        serve(bus, unit, PCL_RECEIVER);
-    }
+    uint32_t sides = pcl_sides(checked(pcl_wants_moves(bus->cells, cells_length(bus))));
+
+    for (uint32_t unit = 0; sides != 0 && unit < bus->units; unit++)
+        for (uint32_t side = 0; side < 2; side++)
+            if (sides & pcl_side_bit(unit, side))
+                move_words(bus, unit, side);
+}
+
+/* After it the levels of all machines are asked at once. */
+static void ask_all_levels(struct bus *bus)
+{
+    uint32_t sides = pcl_sides(checked(pcl_wants_interrupts(bus->cells, cells_length(bus))));
+
+    for (uint32_t unit = 0; unit < bus->units; unit++)
+        for (uint32_t side = 0; side < 2; side++)
+            bus->device[unit].request[side] = (sides & pcl_side_bit(unit, side)) != 0;
 }
 
 uint32_t device_slice(struct bus *bus)
 {
     uint32_t answer;
 
-    service(bus, move_words);
+    move_all_words(bus);
     answer = (uint32_t)checked(pcl_slice(bus->cells, cells_length(bus), 0, 0));
     bus->slices++;
-    service(bus, ask_level);
+    ask_all_levels(bus);
     return answer;
 }
 
@@ -269,7 +278,7 @@ bool device_restore(struct bus *bus, FILE *file)
     if (!get_words(file, cells, cells_length(bus)) || !holds_all(bus, cells))
         return false;
     memcpy(bus->cells, cells, cells_length(bus) * sizeof cells[0]);
-    service(bus, ask_level);
+    ask_all_levels(bus);
     return true;
 }
 

@@ -211,11 +211,7 @@ return SCPE_OK;
 
 static void move_words (uint32 side)
 {
-uint64_t answer;
-
-do {
-    answer = pcl_move (shared->cells, PCL_CELLS (shared->units), M, shared->memory_words, pcl_unit_here, side);
-    } while (pcl_number (answer) == PCL_DONE);
+pcl_move_all (shared->cells, PCL_CELLS (shared->units), M, shared->memory_words, pcl_unit_here, side);
 }
 
 static void pass_time (void)

@@ -150,6 +150,36 @@ uint64_t pcl_trace_move(uint16_t *cells, size_t cells_length, uint16_t *memory, 
     return answer;
 }
 
+/* A move of no word that is not answered 4 set NXL, whose address the answer has, or BC OFL, which stands in RSR. */
+static uint64_t last_move(uint16_t *cells, size_t cells_length, uint32_t unit, uint32_t side, uint64_t answer)
+{
+    uint32_t rsr = side == PCL_RECEIVER ? pcl_value(pcl_read(cells, cells_length, unit, PCL_RSR)) : 0;
+
+    if (pcl_number(answer) != PCL_DONE)
+        return answer;
+    if (pcl_missing(answer) != 0)
+        return (uint64_t)pcl_missing(answer) << 16;
+    return rsr & PCL_RSR_BC_OFL ? PCL_DONE : PCL_NOTHING;
+}
+
+uint64_t pcl_trace_move_all(uint16_t *cells, size_t cells_length, uint16_t *memory, size_t memory_length, uint32_t unit, uint32_t side)
+{
+    uint64_t answer = pcl_move_all(cells, cells_length, memory, memory_length, unit, side);
+    const uint8_t body[] = { field(unit), field(side) };
+
+    if (is_traced(cells, answer)) {
+        uint64_t last = last_move(cells, cells_length, unit, side, answer);
+
+        for (uint32_t words = pcl_words_moved(answer); words > 0; words--) {
+            write_record(MOVE, body, sizeof body);
+            write_line(MOVE, PCL_DONE, 0);
+        }
+        write_record(MOVE, body, sizeof body);
+        write_line(MOVE, last, pcl_missing(last) != 0);
+    }
+    return answer;
+}
+
 uint32_t pcl_trace_period(uint16_t *cells, size_t cells_length, uint32_t unit)
 {
     uint32_t answer = pcl_period(cells, cells_length, unit);

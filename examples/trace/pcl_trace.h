@@ -24,11 +24,14 @@
  *     trace has to have all the calls that led to it, and none that came after it
  *     was saved.
  *
+ * A pcl_move_all is written as its single moves: those that moved a word, and the one
+ * that moved none, since it met NXL, BC OFL or nothing more to move.
+ *
  * What is not written, since a script has no record for it and it changes nothing:
- * pcl_serial; a call answered PCL_BAD_ROOM; a call on other cells, as on a copy. A
- * set-up that was refused is written as one of no units, which is refused too:
- * what was wrong may be a memory length. A number above 255 is written as 255,
- * which gets the same answer. */
+ * pcl_serial, pcl_wants_moves and pcl_wants_interrupts; a call answered
+ * PCL_BAD_ROOM; a call on other cells, as on a copy. A set-up that was refused is
+ * written as one of no units, which is refused too: what was wrong may be a memory
+ * length. A number above 255 is written as 255, which gets the same answer. */
 #ifndef PCL_TRACE_H
 #define PCL_TRACE_H
 
@@ -53,6 +56,7 @@ uint32_t pcl_trace_write(uint16_t *cells, size_t cells_length, uint32_t unit, ui
 uint32_t pcl_trace_write_byte(uint16_t *cells, size_t cells_length, uint32_t unit, uint32_t offset, uint8_t byte);
 uint32_t pcl_trace_slice(uint16_t *cells, size_t cells_length, uint16_t data_mask, uint32_t parity_mask);
 uint64_t pcl_trace_move(uint16_t *cells, size_t cells_length, uint16_t *memory, size_t memory_length, uint32_t unit, uint32_t side);
+uint64_t pcl_trace_move_all(uint16_t *cells, size_t cells_length, uint16_t *memory, size_t memory_length, uint32_t unit, uint32_t side);
 uint32_t pcl_trace_period(uint16_t *cells, size_t cells_length, uint32_t unit);
 uint32_t pcl_trace_reset(uint16_t *cells, size_t cells_length, uint32_t unit);
 uint32_t pcl_trace_level(const uint16_t *cells, size_t cells_length, uint32_t unit, uint32_t side);
@@ -68,6 +72,7 @@ uint32_t pcl_trace_level(const uint16_t *cells, size_t cells_length, uint32_t un
 #define pcl_write_byte pcl_trace_write_byte
 #define pcl_slice pcl_trace_slice
 #define pcl_move pcl_trace_move
+#define pcl_move_all pcl_trace_move_all
 #define pcl_period pcl_trace_period
 #define pcl_reset pcl_trace_reset
 #define pcl_level pcl_trace_level

@@ -1,8 +1,9 @@
 /* both.h - the archive and the second library side by side. Each call is made on
  * both; then the two answers have to be equal, the archive's cells have to be
  * docs/STATE.md's form of the second library's state, and the registers, levels,
- * serials and memories have to show the same. The first difference ends the
- * program.
+ * serials and memories have to show the same. After a slice the calls for all
+ * sides and for all words of a side have to be what the single calls are. The
+ * first difference ends the program.
  *
  * Where cells were damaged, the second library reads them by docs/STATE.md, and
  * from then to the next fit the archive's cells have to be read as its state.
@@ -214,26 +215,123 @@ static uint32_t call_read(uint32_t unit, uint32_t offset)
     return look("read", pcl_read(cells, PCL_CELLS_MOST, unit, offset), second_read(&l, unit, offset));
 }
 
+/* Both masks, and each of their bits by the call at its side, on a copy: what a move leaves at one side is nothing to another. Cells that
+ * were damaged may ask for more memory than there is: of such a move nothing is known. The words do not matter here. */
+static void look_at_wants(const char *call)
+{
+    static uint16_t copy[PCL_CELLS_MOST], scratch[PCL_MEMORY_MOST];
+    uint64_t moves = pcl_wants_moves(cells, PCL_CELLS_MOST), levels = pcl_wants_interrupts(cells, PCL_CELLS_MOST);
+
+    memcpy(copy, cells, sizeof copy);
+    if (moves != second_wants_moves(&l))
+        differ(call, "the sides that want moves", moves, second_wants_moves(&l));
+    if (levels != second_wants_interrupts(&l))
+        differ(call, "the sides that want interrupts", levels, second_wants_interrupts(&l));
+    for (uint32_t unit = 0; unit < PCL_UNITS_MOST; unit++)
+        for (uint32_t side = 0; side < 2; side++) {
+            uint32_t bit = pcl_side_bit(unit, side);
+            uint32_t number = pcl_number(pcl_move(copy, PCL_CELLS_MOST, scratch, PCL_MEMORY_MOST, unit, side));
+
+            must_agree(call, "the level's bit", side, unit, (pcl_sides(levels) & bit) != 0,
+                       pcl_level(cells, PCL_CELLS_MOST, unit, side) == (1u << 16 | PCL_DONE));
+            if (number != PCL_BAD_ROOM)
+                must_agree(call, "the move's bit", side, unit, (pcl_sides(moves) & bit) != 0, number == PCL_DONE);
+        }
+}
+
+/* All moves of every side at once, and one after the other until 4, on copies: the answers, every cell, and every word of a memory, of
+ * which there are two that take the same words all the time. */
+static uint16_t words_at_once[PCL_MEMORY_MOST], words_in_turn[PCL_MEMORY_MOST];
+
+static uint64_t moves_in_turn(uint16_t *in, uint32_t unit, uint32_t side)
+{
+    uint64_t first = pcl_move(in, PCL_CELLS_MOST, words_in_turn, PCL_MEMORY_MOST, unit, side), answer = first, words = 0;
+
+    if (pcl_number(first) != PCL_DONE)
+        return first;
+    for (uint64_t next = first; pcl_number(next) == PCL_DONE;
+         next = pcl_move(in, PCL_CELLS_MOST, words_in_turn, PCL_MEMORY_MOST, unit, side)) {
+        uint32_t status = pcl_value(pcl_read(in, PCL_CELLS_MOST, unit, side ? PCL_RSR : PCL_TSR));
+
+        answer = next;
+        if (!(status & PCL_TSR_NXL) && !(side && status & PCL_RSR_BC_OFL))
+            words++;
+    }
+    return answer + (words << 34);
+}
+
+static void look_at_transfers(const char *call)
+{
+    static uint16_t at_once[PCL_CELLS_MOST], in_turn[PCL_CELLS_MOST];
+
+    memcpy(at_once, cells, sizeof at_once);
+    memcpy(in_turn, cells, sizeof in_turn);
+    for (uint32_t unit = 0; unit < l.units; unit++)
+        for (uint32_t side = 0; side < 2; side++) {
+            uint64_t answer = pcl_move_all(at_once, PCL_CELLS_MOST, words_at_once, PCL_MEMORY_MOST, unit, side);
+            uint64_t wanted = moves_in_turn(in_turn, unit, side);
+
+            if (answer != wanted)
+                differ(call, "all moves at once, and one after the other", answer, wanted);
+        }
+    for (uint32_t i = FIRST_BLOCK; i < PCL_CELLS(l.units); i++)
+        must_agree(call, "moved at once, cell", (i - FIRST_BLOCK) % BLOCK, (i - FIRST_BLOCK) / BLOCK, at_once[i], in_turn[i]);
+    if (memcmp(at_once, in_turn, sizeof at_once))
+        differ(call, "moved at once, a cell of no unit", 1, 0);
+}
+
+static inline void look_at_moved_words(const char *call)
+{
+    for (uint32_t i = 0; i < PCL_MEMORY_MOST; i++)
+        if (words_at_once[i] != words_in_turn[i])
+            differ(call, "moved at once, a word of a memory", words_at_once[i], words_in_turn[i]);
+}
+
 static uint32_t call_slice(uint32_t data_mask, uint32_t parity_mask)
 {
     uint32_t archive = pcl_slice(cells, PCL_CELLS_MOST, (uint16_t)data_mask, parity_mask);
 
     expect_slice(archive);
     laid = pcl_number(archive) == PCL_DONE ? TURNED : IN_PLACE;
-    return look("slice", archive, second_slice(&l, (uint16_t)data_mask, parity_mask));
+    look("slice", archive, second_slice(&l, (uint16_t)data_mask, parity_mask));
+    if (depth >= EVERYTHING) {
+        look_at_wants("slice");
+        look_at_transfers("slice");
+    }
+    return archive;
 }
 
-/* A move alone is lent a memory, and answers 64 bits. */
-static uint64_t call_move(uint32_t unit, uint32_t side, size_t lent)
+/* A move, and all moves of a side, are lent a memory, and answer 64 bits. */
+typedef uint64_t archive_mover(uint16_t *, size_t, uint16_t *, size_t, uint32_t, uint32_t);
+typedef uint64_t second_mover(struct second_link *, uint32_t, uint32_t, uint16_t *, size_t);
+
+static uint64_t call_mover(const char *call, archive_mover *archive_moves, second_mover *second_moves, uint32_t unit, uint32_t side, size_t lent)
 {
     uint32_t place = unit % PCL_UNITS_MOST;
-    uint64_t archive = pcl_move(cells, PCL_CELLS_MOST, memory[place], lent, unit, side);
+    uint64_t archive = archive_moves(cells, PCL_CELLS_MOST, memory[place], lent, unit, side);
 
     expect_move(unit, side, pcl_number(archive));
-    look("move", archive, second_move(&l, unit, side, memory_of_second[place], lent));
+    look(call, archive, second_moves(&l, unit, side, memory_of_second[place], lent));
     if (depth >= CELLS)
-        look_at_memory("move", place, lent);
+        look_at_memory(call, place, lent);
     return archive;
+}
+
+static uint64_t call_move(uint32_t unit, uint32_t side, size_t lent)
+{
+    return call_mover("move", pcl_move, second_move, unit, side, lent);
+}
+
+static inline uint64_t call_move_all(uint32_t unit, uint32_t side, size_t lent)
+{
+    return call_mover("all moves", pcl_move_all, second_move_all, unit, side, lent);
+}
+
+static inline void call_wants(void)
+{
+    puts_nothing();
+    look("wants moves", pcl_wants_moves(cells, PCL_CELLS_MOST), second_wants_moves(&l));
+    look("wants interrupts", pcl_wants_interrupts(cells, PCL_CELLS_MOST), second_wants_interrupts(&l));
 }
 
 static uint32_t call_period(uint32_t unit)

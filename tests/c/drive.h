@@ -20,6 +20,8 @@ static uint32_t call_write_byte(uint32_t unit, uint32_t offset, uint32_t byte);
 static uint32_t call_read(uint32_t unit, uint32_t offset);
 static uint32_t call_slice(uint32_t data_mask, uint32_t parity_mask);
 static uint64_t call_move(uint32_t unit, uint32_t side, size_t lent);
+static uint64_t call_move_all(uint32_t unit, uint32_t side, size_t lent);
+static void call_wants(void);                   /* both masks */
 static uint32_t call_period(uint32_t unit);
 static uint32_t call_reset(uint32_t unit);
 static uint32_t call_level(uint32_t unit, uint32_t side);
@@ -207,6 +209,8 @@ static void miss_address(uint32_t u)
     call_write(u, first + PCL_TSBA, address & 0xFFFF);
     call_write(u, first, (unit_at(u)->transmitter.side.command & PCL_TCR_DESTINATION(31)) | PCL_TCR_TX_NPR
                | (address >> 16 & 3) << 4 | perhaps(PCL_TCR_INH_ADI, 2));
+    if (once_in(2))
+        call_move_all(u, side, PCL_MEMORY_MOST);
     for (unsigned i = 0; i < 3; i++)
         call_move(u, side, PCL_MEMORY_MOST);
 }
@@ -284,7 +288,7 @@ static void pass_time(uint32_t u)
 
 static void odd_call(uint32_t u)
 {
-    switch (below(21)) {
+    switch (below(22)) {
     case 0: write_transmitter_command(u); break;
     case 1: write_receiver_command(u); break;
     case 2: write_status(u, PCL_TSR); break;
@@ -304,6 +308,7 @@ static void odd_call(uint32_t u)
     case 17: pass_time(u); break;
     case 18: if (once_in(4)) miss_address(u); break;
     case 19: call_serial(u, some_side()); break;
+    case 20: call_wants(); break;
     default: forge_crc(); break;
     }
 }

@@ -16,7 +16,8 @@ static inline bool is_unreachable(const char *name)
         "rule_8_due_good_of_a_word", "rule_8_due_good_of_a_closed_transmitters_word", "rule_9_stored_a_crc",
         "rule_9_verdict_stands", "closed_01", "closed_10" };
     static const char *const numbers[] = { "fit 07", "write 01256", "write_byte 012356",
-        "read 0124", "slice 078", "move 0149", "period 01", "reset 01", "interrupt_level 01", "serial 01" };
+        "read 0124", "slice 078", "move 0149", "period 01", "reset 01", "interrupt_level 01", "serial 01",
+        "move_all 0149", "wants_moves 0", "wants_interrupts 0" };
     size_t length = strlen(name);
 
     for (size_t i = 0; i < sizeof none / sizeof none[0]; i++)

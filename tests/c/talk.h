@@ -23,7 +23,10 @@ static size_t some_lent(uint32_t u)
     return once_in(500) ? below(PCL_MEMORY_MOST + 1) : once_in(9) ? PCL_MEMORY_MOST : fitted;
 }
 
-static uint64_t move_some(uint32_t u, uint32_t side) { return call_move(u, side, some_lent(u)); }
+static uint64_t move_some(uint32_t u, uint32_t side)
+{
+    return once_in(8) ? call_move_all(u, side, some_lent(u)) : call_move(u, side, some_lent(u));
+}
 
 /* One in `quiet` slices is damaged. */
 static void slice_some(uint32_t quiet)

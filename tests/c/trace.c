@@ -74,6 +74,21 @@ static uint64_t call_move(uint32_t unit, uint32_t side, size_t lent)
     return both(pcl_move(cells, PCL_CELLS_MOST, words, length, unit, side), second_move(&l, unit, side, copy, length));
 }
 
+static uint64_t call_move_all(uint32_t unit, uint32_t side, size_t lent)
+{
+    uint16_t *words = memory[unit % PCL_UNITS_MOST], copy[2 * DRIVE_MEMORY];
+    size_t length = lent < 2 * DRIVE_MEMORY ? lent : 2 * DRIVE_MEMORY;
+
+    memcpy(copy, words, sizeof copy);
+    return both(pcl_move_all(cells, PCL_CELLS_MOST, words, length, unit, side), second_move_all(&l, unit, side, copy, length));
+}
+
+static void call_wants(void)
+{
+    both(pcl_wants_moves(cells, PCL_CELLS_MOST), second_wants_moves(&l));
+    both(pcl_wants_interrupts(cells, PCL_CELLS_MOST), second_wants_interrupts(&l));
+}
+
 static uint32_t call_period(uint32_t unit)
 {
     return (uint32_t)both(pcl_period(cells, PCL_CELLS_MOST, unit), second_period(&l, unit));

@@ -27,7 +27,7 @@ static uint64_t any_call(size_t length)
 {
     uint32_t unit = some_unit(), place = unit % PCL_UNITS_MOST, side = some_side();
 
-    switch (below(9)) {
+    switch (below(12)) {
     case 0: return pcl_read(copy, length, unit, below(34));
     case 1: return pcl_write(copy, length, unit, below(34), any_word());
     case 2: return pcl_write_byte(copy, length, unit, below(34), (uint8_t)below(256));
@@ -36,6 +36,9 @@ static uint64_t any_call(size_t length)
     case 5: return pcl_period(copy, length, unit);
     case 6: return pcl_reset(copy, length, unit);
     case 7: return pcl_level(copy, length, unit, side);
+    case 8: return pcl_move_all(copy, length, memory[place], PCL_MEMORY_MOST, unit, side);
+    case 9: return pcl_wants_moves(copy, length);
+    case 10: return pcl_wants_interrupts(copy, length);
     default: return pcl_serial(copy, length, unit, side);
     }
 }
@@ -69,6 +72,7 @@ static void between_scenes(void)
     static uint16_t kept[PCL_UNITS_MOST][PCL_MEMORY_MOST];
 
     look_everywhere("the end of a scene");
+    look_at_moved_words("the end of a scene");
     memcpy(kept, memory, sizeof kept);
     for (unsigned i = 0; i < 100; i++)
         try_refused();
@@ -105,6 +109,88 @@ static void last_word(void)
     call_slice(0, 0);
     call_move(0, PCL_RECEIVER, PCL_MEMORY_MOST);
     must(was_reached("tx_move_overflow") && was_reached("rc_move_overflow"), "no memory overflow");
+}
+
+/* The same with all moves of a side at once: the third word from the end is the first. */
+static void last_words_at_once(void)
+{
+    const uint32_t setup[] = { 1, 6, 2, PCL_MEMORY_MOST };
+    const uint64_t three = (uint64_t)3 << 34;
+
+    call_fit(setup, 4);
+    take_mastership(0);
+    call_write(0, PCL_TSBA, 0xFFFA);
+    call_write(0, PCL_TSBC, 0);
+    call_write(0, PCL_TCR, PCL_TCR_TX_NPR | PCL_TCR_EA16 | PCL_TCR_EA17);
+    must(call_move_all(0, PCL_TRANSMITTER, PCL_MEMORY_MOST - 1) == PCL_BAD_ROOM, "a memory too short is taken");
+    must(call_move_all(0, PCL_TRANSMITTER, PCL_MEMORY_MOST) == three, "not the last three words");
+    call_write(0, PCL_TSR, 0);
+    call_write(0, PCL_TCR, PCL_TCR_DESTINATION(6) | BOTH_COMMANDS);
+    call_write(0, PCL_TSDB, any_word());                    /* a fourth */
+    call_write(0, PCL_RDBA, 0xFFFA);
+    call_write(0, PCL_RDBC, 0);
+    call_write(0, PCL_RCR, PCL_RCR_RC_NPR | BOTH_COMMANDS | PCL_RCR_EA16 | PCL_RCR_EA17);
+    for (unsigned slices = 0; slices < 8; slices++)
+        call_slice(0, 0);
+    must(call_move_all(0, PCL_RECEIVER, PCL_MEMORY_MOST) == three, "not three words to the end");
+}
+
+/* A unit that sends to itself, with so many words to move at each side, from the byte address on. */
+static void load_both_sides(uint32_t words, uint32_t address, uint32_t room)
+{
+    const uint32_t setup[] = { 1, 6, 2, 200 };
+
+    call_fit(setup, 4);
+    take_mastership(0);
+    call_write(0, PCL_TSBA, address);
+    call_write(0, PCL_RDBA, address);
+    call_write(0, PCL_TSBC, pcl_byte_count(words));
+    call_write(0, PCL_RDBC, pcl_byte_count(room));
+    call_write(0, PCL_TCR, PCL_TCR_DESTINATION(6) | PCL_TCR_TX_NPR | BOTH_COMMANDS);
+    call_write(0, PCL_RCR, PCL_RCR_RC_NPR | BOTH_COMMANDS);
+}
+
+/* How many words all moves of a side moved, and that they end so: with the address, by the error bits, at once again or not. */
+static void moves_end(uint32_t side, uint32_t words, uint32_t missing, uint32_t errors)
+{
+    uint64_t answer = call_move_all(0, side, 200);
+    uint32_t status = side ? PCL_RSR : PCL_TSR;
+
+    must(answer == ((uint64_t)missing << 16) + ((uint64_t)words << 34), "not so many words at once");
+    must((pcl_value(call_read(0, status)) & (PCL_TSR_ERR | PCL_TSR_NXL | PCL_RSR_BC_OFL)) == errors, "not this end");
+    must(call_move_all(0, side, 200) == PCL_NOTHING, "not all at once");
+    call_write(0, status, 0);
+    if (errors)
+        must(call_move_all(0, side, 200) == (uint64_t)missing << 16, "not the same end again");
+    call_write(0, status, 0);
+}
+
+static void send_words(uint32_t words)
+{
+    for (uint32_t slices = 0; slices < 2 * words; slices++)
+        call_slice(0, 0);
+}
+
+static void moves_at_once(void)
+{
+    load_both_sides(70, 0, 70);
+    moves_end(PCL_TRANSMITTER, 64, 0, 0);
+    send_words(64);
+    moves_end(PCL_TRANSMITTER, 6, 0, 0);
+    moves_end(PCL_RECEIVER, 64, 0, 0);
+    load_both_sides(9, 396, 9);
+    moves_end(PCL_TRANSMITTER, 2, 400, PCL_TSR_ERR | PCL_TSR_NXL);
+    call_write(0, PCL_TSBA, 0);
+    call_write(0, PCL_TCR, PCL_TCR_DESTINATION(6) | PCL_TCR_TX_NPR | BOTH_COMMANDS);
+    moves_end(PCL_TRANSMITTER, 7, 0, 0);
+    send_words(9);
+    moves_end(PCL_RECEIVER, 2, 400, PCL_RSR_ERR | PCL_RSR_NXL);
+    load_both_sides(9, 0, 3);
+    call_move_all(0, PCL_TRANSMITTER, 200);
+    send_words(9);
+    moves_end(PCL_RECEIVER, 3, 0, PCL_RSR_ERR | PCL_RSR_BC_OFL);
+    must(all_reached("calls", "tx_all_") && all_reached("calls", "rc_all_") && was_reached("number_move_all_9"),
+         "moves at once do not end in every way");
 }
 
 /* Document 02's request No. 3: a byte address tried by a load of its own at each side of a unit that sends to itself. */
@@ -364,6 +450,8 @@ int main(int count, char **arguments)
     forget_both();
     wild_calls(STEPS);                          /* nothing fitted yet */
     last_word();
+    last_words_at_once();
+    moves_at_once();
     missing_addresses();
     break_messages(wanted < 1000000 ? 17 : 1);  /* 17 shares no divisor with RESTARTS */
     serials_from_anywhere();

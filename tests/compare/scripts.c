@@ -85,6 +85,24 @@ static uint64_t call_move(uint32_t unit, uint32_t side, size_t lent)
     return second_move(&l, unit, side, memory[unit % PCL_UNITS_MOST], DRIVE_MEMORY);
 }
 
+/* A script has no record for it: its single moves, of which the last moves no word, by NXL, by BC OFL or since it is answered 4. */
+static uint64_t call_move_all(uint32_t unit, uint32_t side, size_t lent)
+{
+    uint64_t answer = second_move_all(&l, unit, side, memory[unit % PCL_UNITS_MOST], DRIVE_MEMORY);
+
+    (void)lent;
+    for (uint32_t records_left = pcl_words_moved(answer) + 1; records_left > 0; records_left--)
+        RECORD(MOVE, unit, side);
+    return answer;
+}
+
+/* No record shows them. */
+static void call_wants(void)
+{
+    second_wants_moves(&l);
+    second_wants_interrupts(&l);
+}
+
 static uint32_t call_period(uint32_t unit)
 {
     RECORD(PERIOD, unit);
@@ -169,7 +187,7 @@ int main(int count, char **arguments)
         if (fclose(file) != 0)
             return 2;
     }
-    if (wrongly_reached("scripts", "tx_move_overflow rc_move_overflow number_move_9 serial_goes_round "))
+    if (wrongly_reached("scripts", "tx_move_overflow rc_move_overflow tx_all_overflow rc_all_overflow number_move_9 number_move_all_9 serial_goes_round "))
         return 1;
     printf("scripts: %llu records in %u scripts, everything reached that %d words of memory allow\n", records, files, DRIVE_MEMORY);
     return 0;

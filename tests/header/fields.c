@@ -111,6 +111,22 @@ static void check_answers(void)
     expect("missing address", 0, pcl_missing((uint64_t)0777776 << 16), 0777776);
     expect("no missing address", 0, pcl_missing(PCL_NOTHING), 0);
     expect("value of the largest word", 0, pcl_value((uint32_t)0177777 << 16), 0177777);
+    for (uint64_t words = 0; words <= 64; words++)
+        for (uint64_t address = 0; address <= 0777776; address = address * 2 + 2) {
+            uint64_t answer = address << 16 | words << 34;
+
+            expect("number of all moves", words, pcl_number(answer), PCL_DONE);
+            expect("words moved", words, pcl_words_moved(answer), words);
+            expect("missing address after words", words, pcl_missing(answer), address);
+        }
+    expect("no words moved", 0, pcl_words_moved(PCL_NOTHING), 0);
+    for (uint32_t unit = 0; unit < PCL_UNITS_MOST; unit++) {
+        expect("bit of a transmitter", unit, pcl_side_bit(unit, PCL_TRANSMITTER), 1ul << unit);
+        expect("bit of a receiver", unit, pcl_side_bit(unit, PCL_RECEIVER), 1ul << (16 + unit));
+        expect("sides of an answer", unit, pcl_sides((uint64_t)pcl_side_bit(unit, PCL_RECEIVER) << 16), 1ul << (16 + unit));
+    }
+    expect("sides of all", 0, pcl_sides((uint64_t)UINT32_MAX << 16), UINT32_MAX);
+    expect("no sides of a refusal", 0, pcl_sides(PCL_BAD_ROOM), 0);
 }
 
 void check_fields(void)

@@ -216,6 +216,41 @@ static void check_codes(void)
     expect("B in RSR", 2, pcl_rsp_b(get(B, PCL_RSR)), PCL_B_CHECK_FAILURE);
 }
 
+/* ---- service */
+
+static void check_service(void)
+{
+    const uint32_t a_sends = pcl_side_bit(A, PCL_TRANSMITTER), b_receives = pcl_side_bit(B, PCL_RECEIVER);
+    uint64_t answer;
+
+    fit();
+    expect("nobody wants moves", 0, pcl_wants_moves(cells, length), PCL_DONE);
+    expect("nobody wants interrupts", 0, pcl_wants_interrupts(cells, length), PCL_DONE);
+    put(B, PCL_RDBC, pcl_byte_count(SMALL + 1));
+    put(B, PCL_RCR, PCL_RCR_RCV_WD | PCL_RCR_RCV_DAT | PCL_RCR_RC_NPR | PCL_RCR_IE);
+    put(A, PCL_TSBC, pcl_byte_count(SMALL + 1));
+    put(A, PCL_TCR, PCL_TCR_DESTINATION(RECEIVER_B) | PCL_TCR_TX_NPR | PCL_TCR_SND_WD | PCL_TCR_ST_TXM);
+    expect("A wants moves", 0, pcl_sides(pcl_wants_moves(cells, length)), a_sends);
+    answer = pcl_move_all(cells, length, memory[A], PCL_MEMORY_MOST, A, PCL_TRANSMITTER);
+    expect("number of A's moves", 0, pcl_number(answer), PCL_DONE);
+    expect("words of A", 0, pcl_words_moved(answer), SMALL + 1);
+    expect("nothing missing at A", 0, pcl_missing(answer), 0);
+    expect("no more at A", 0, pcl_move_all(cells, length, memory[A], PCL_MEMORY_MOST, A, PCL_TRANSMITTER), PCL_NOTHING);
+    for (unsigned words = 0; words <= SMALL; words++)
+        expect_codes("a word of A's", slice_of_a(0), PCL_A_WORD, PCL_B_ACKNOWLEDGE);
+    expect("B wants moves", 0, pcl_sides(pcl_wants_moves(cells, length)), b_receives);
+    expect("no interrupt yet", 0, pcl_sides(pcl_wants_interrupts(cells, length)), 0);
+    answer = pcl_move_all(cells, length, memory[B], SMALL, B, PCL_RECEIVER);
+    expect("number of B's moves", 0, pcl_number(answer), PCL_DONE);
+    expect("words of B", 0, pcl_words_moved(answer), SMALL);
+    expect("missing at B", 0, pcl_missing(answer), 2 * SMALL);
+    expect("NXL at B", 0, get(B, PCL_RSR) & PCL_RSR_NXL, PCL_RSR_NXL);
+    expect("moves stopped", 0, pcl_sides(pcl_wants_moves(cells, length)), 0);
+    expect("B wants an interrupt", 0, pcl_sides(pcl_wants_interrupts(cells, length)), b_receives);
+    expect("too little memory", 0, pcl_move_all(cells, length, memory[B], SMALL - 1, B, PCL_RECEIVER), PCL_BAD_ROOM);
+    expect("no room", 0, pcl_wants_moves(cells, 1) & pcl_wants_interrupts(cells, length - 1), PCL_BAD_ROOM);
+}
+
 /* ---- the layout */
 
 /* Cells in which nearly every part is in use, as one number. */
@@ -268,5 +303,6 @@ void check_on_link(void)
     check_counts();
     check_addresses();
     check_codes();
+    check_service();
     check_layout();
 }

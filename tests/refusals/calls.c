@@ -15,12 +15,15 @@ static void all_answer(uint32_t number)
         REFUSED(wr(unit, bad ? 15 : PCL_TCR, 0xFFFF), number);
         REFUSED(wb(unit, bad ? PCL_TSDB : PCL_TCR, 0xFF), number);
         REFUSED(mv(unit, side), number);
+        REFUSED(ma(unit, side), number);
         REFUSED(pd(unit), number);
         REFUSED(rs(unit), number);
         REFUSED(lv(unit, side), number);
         REFUSED(sn(unit, side), number);
         REFUSED(sl(1, bad ? 2 : 0), number == PCL_NOT_FITTED ? bad ? PCL_BAD_SETUP : PCL_NO_MASTER : number);
     }
+    REFUSED(wm(), number == PCL_NOT_FITTED ? 0 : number);          /* no unit fitted: no side wants anything */
+    REFUSED(wi(), number == PCL_NOT_FITTED ? 0 : number);
 }
 
 /* The cell of a side's serial. */
@@ -52,6 +55,8 @@ static void leave_all(uint32_t u)
         REFUSED(wr(u, 28 + half, 0xFFFF), PCL_NO_REGISTER);
     }
     REFUSED(sl(0, 2), PCL_BAD_SETUP);
+    REFUSED(pcl_number(wm()), 0);
+    REFUSED(pcl_number(wi()), 0);
 }
 
 /* What may find nothing to do: then nothing has changed, else it is undone. */
@@ -67,6 +72,8 @@ static void calls_that_may_leave_all(uint32_t u)
 {
     done_or_left(mv(u, PCL_TRANSMITTER));
     done_or_left(mv(u, PCL_RECEIVER));
+    done_or_left(ma(u, PCL_TRANSMITTER));
+    done_or_left(ma(u, PCL_RECEIVER));
     done_or_left(rd(u, PCL_TSDB));
     done_or_left(rd(u, PCL_RDDB));
     done_or_left(wb(u, PCL_TMMR, 9));
@@ -186,6 +193,7 @@ static void units_not_fitted(uint32_t units)
         }
         for (uint32_t side = 0; side < 4; side++) {
             REFUSED(mv(numbers[i], side), 1);
+            REFUSED(ma(numbers[i], side), 1);
             REFUSED(lv(numbers[i], side), 1);
             REFUSED(sn(numbers[i], side), 1);
         }
@@ -199,6 +207,7 @@ static void bad_places(uint32_t unit)
 {
     for (size_t i = 2; i < NUMBERS; i++) {
         REFUSED(mv(unit, numbers[i]), 1);
+        REFUSED(ma(unit, numbers[i]), 1);
         REFUSED(lv(unit, numbers[i]), 1);
         REFUSED(sn(unit, numbers[i]), 1);
     }
@@ -228,9 +237,12 @@ static void short_memories(uint32_t units)
         lend_memory(lent);
         for (uint32_t unit = 0; unit < units; unit++)
             for (uint32_t side = 0; side < 3; side++)
-                if (lent < MEMORY + unit)
+                if (lent < MEMORY + unit) {
                     REFUSED(mv(unit, side), 9);
+                    REFUSED(ma(unit, side), 9);
+                }
         REFUSED(mv(units, 0), 1);
+        REFUSED(ma(units, 0), 1);
     }
 }
 
@@ -306,11 +318,19 @@ static void nothing_there(void)
         REFUSED(rd(unit, PCL_RDDB), 4);
         REFUSED(mv(unit, 0), 4);
         REFUSED(mv(unit, 1), 4);
+        REFUSED(ma(unit, 0), 4);
+        REFUSED(ma(unit, 1), 4);
     }
+    REFUSED(wm(), 0);
+    REFUSED(wi(), 0);
     state_of(2);
     REFUSED(mv(0, 1), 4);
     REFUSED(mv(1, 0), 4);
     REFUSED(mv(1, 1), 4);
+    REFUSED(ma(0, 1), 4);
+    REFUSED(ma(1, 0), 4);
+    REFUSED(ma(1, 1), 4);
+    REFUSED(wm(), (uint64_t)pcl_side_bit(0, PCL_TRANSMITTER) << 16);
     REFUSED(rd(1, PCL_RDDB), 4);
 }
 

@@ -104,6 +104,9 @@ static inline uint32_t wr(uint32_t u, uint32_t o, unsigned w) { return pcl_write
 static inline uint32_t wb(uint32_t u, uint32_t o, unsigned b) { return pcl_write_byte(cells, length, u, o, (uint8_t)b); }
 static inline uint32_t sl(unsigned data, uint32_t parity) { return pcl_slice(cells, length, (uint16_t)data, parity); }
 static inline uint64_t mv(uint32_t u, uint32_t side) { return pcl_move(cells, length, memory, memory_length, u, side); }
+static inline uint64_t ma(uint32_t u, uint32_t side) { return pcl_move_all(cells, length, memory, memory_length, u, side); }
+static inline uint64_t wm(void) { return pcl_wants_moves(cells, length); }
+static inline uint64_t wi(void) { return pcl_wants_interrupts(cells, length); }
 static inline uint32_t pd(uint32_t u) { return pcl_period(cells, length, u); }
 static inline uint32_t rs(uint32_t u) { return pcl_reset(cells, length, u); }
 static inline uint32_t lv(uint32_t u, uint32_t side) { return pcl_level(cells, length, u, side); }

@@ -40,6 +40,7 @@ static uint32_t rn(uint32_t u, uint32_t o) { return no(second_read(&l, u, o)); }
 static uint32_t level(uint32_t u, uint32_t s) { return second_interrupt_level(&l, u, s) >> 16; }
 static uint32_t serial(uint32_t u, uint32_t s) { return second_serial(&l, u, s) >> 16; }
 static uint64_t mv(uint32_t u, uint32_t s) { return second_move(&l, u, s, memory[u], 131072); }
+static uint64_t move_all(uint32_t u, uint32_t s) { return second_move_all(&l, u, s, memory[u], 131072); }
 
 /* The answer of a slice in the form of the document: address, A, B. */
 static uint32_t sl(uint32_t address, uint32_t a, uint32_t b)
@@ -51,6 +52,18 @@ static uint32_t sl(uint32_t address, uint32_t a, uint32_t b)
 static uint64_t at(uint32_t address)
 {
     return (uint64_t)address << 16;
+}
+
+/* The answer of all moves of a side: the words moved, and the address that was missing, or 0. */
+static uint64_t moved(uint64_t words, uint32_t address)
+{
+    return at(address) + (words << 34);
+}
+
+/* The answer of the calls for all sides: those of unit 0 first. */
+static uint64_t sides(uint32_t transmitters, uint32_t receivers)
+{
+    return (uint64_t)(transmitters | receivers << 16) << 16;
 }
 
 /* Slices until transmitter address `address` was served; its answer. */
@@ -195,6 +208,9 @@ static void refusals(void)
     IS(second_move(&l, 0, 7, memory[0], 131071), 9);
     IS(second_move(&l, 0, 7, NULL, 0), 9);
     IS(second_move(&l, 2, 0, NULL, 0), 1);
+    IS(second_move_all(&l, 0, 0, memory[0], 131071), 9); IS(second_move_all(&l, 0, 7, memory[0], 131071), 9);
+    IS(second_move_all(&l, 0, 7, NULL, 0), 9); IS(second_move_all(&l, 2, 0, NULL, 0), 1);
+    IS(move_all(0, 2), 1); IS(move_all(0, 0xFFFFFFFF), 1); IS(move_all(0, 0), 4); IS(move_all(1, 1), 4);
     IS(second_slice(&l, 0, 2), 7);
     IS(second_slice(&l, 0xFFFF, 0x10000), 7);
     same(__LINE__);
@@ -644,6 +660,97 @@ static void missing(void)
     /* memory overflow neither: the word at 777776 was moved */
     fit_plain(1, 2, 131072); wr(0, TSBA, 0xFFFE); wr(0, TSBC, 0); wr(0, TCR, EA | TX_NPR);
     IS(mv(0, 0), 0); IS(rd(0, TSR) & (MEM_OFL | NXL), MEM_OFL);
+}
+
+/* All moves of a side: what ends them, and how many words that were. A word of so many at each side of unit 0, which sends to itself. */
+static void load_both(uint32_t words, uint32_t address)
+{
+    fit_plain(1, 2, 200);
+    wb(0, TMMR + 1, 0x11);
+    wr(0, TSBA, address); wr(0, TSBC, -2 * words & 0xFFFF);
+    wr(0, RDBA, address); wr(0, RDBC, -2 * words & 0xFFFF);
+    wr(0, TCR, (11 << 8) | TX_NPR | SND_WD | ST_TXM);
+    wr(0, RCR, RCV_WD | RCV_DAT | RC_NPR);
+}
+
+static void move_all_words(void)
+{
+    /* a silo's 64 words, then none until some are sent; the last of the load */
+    for (uint32_t k = 0; k < 200; k++)
+        memory[0][k] = (uint16_t)(0x4000 + k);
+    load_both(70, 0);
+    IS(move_all(0, 1), 4);
+    IS(move_all(0, 0), moved(64, 0)); IS(rd(0, TSBC), -2 * 6 & 0xFFFF); IS(rd(0, TSBA), 128); IS(move_all(0, 0), 4);
+    for (unsigned k = 0; k < 3; k++)
+        IS(serve(1), sl(1, 2, 3));
+    IS(move_all(0, 0), moved(3, 0)); IS(move_all(0, 1), moved(3, 0)); IS(move_all(0, 1), 4); IS(rd(0, RDBA), 6);
+    for (unsigned k = 0; k < 64; k++)
+        IS(serve(1), sl(1, 2, 3));
+    IS(move_all(0, 0), moved(3, 0)); IS(rd(0, TCR) & TX_NPR, 0); IS(move_all(0, 0), 4);
+    IS(move_all(0, 1), moved(64, 0)); IS(rd(0, RDBA), 134);
+    for (uint32_t k = 0; k < 67; k++)
+        IS(memory[0][k], 0x4000 + k);
+    /* NXL after two words, and at once; the same address until it is changed */
+    load_both(9, 396);
+    IS(move_all(0, 0), moved(2, 400)); IS(rd(0, TSR) & (ERR | NXL), ERR | NXL); IS(move_all(0, 0), 4);
+    wr(0, TSR, 0); IS(move_all(0, 0), moved(0, 400)); IS(rd(0, TSBC), -2 * 7 & 0xFFFF);
+    wr(0, TSR, 0); wr(0, TSBA, 0); wr(0, TCR, (11 << 8) | TX_NPR | SND_WD | ST_TXM); IS(move_all(0, 0), moved(7, 0));
+    for (unsigned k = 0; k < 9; k++)
+        IS(serve(1), sl(1, 2, 3));
+    IS(move_all(0, 1), moved(2, 400)); IS(rd(0, RSR) & (ERR | NXL | DTORDY), ERR | NXL | DTORDY); IS(move_all(0, 1), 4);
+    wr(0, RSR, 0); IS(move_all(0, 1), moved(0, 400));
+    /* BC OFL after three words, at once, and until RDBC is loaded */
+    load_both(8, 0); wr(0, RDBC, 0xFFFA);
+    IS(move_all(0, 0), moved(8, 0));
+    for (unsigned k = 0; k < 8; k++)
+        IS(serve(1), sl(1, 2, 3));
+    IS(move_all(0, 1), moved(3, 0)); IS(rd(0, RSR) & (ERR | BC_OFL | DTORDY), ERR | BC_OFL | DTORDY); IS(move_all(0, 1), 4);
+    wr(0, RSR, 0); IS(move_all(0, 1), moved(0, 0)); IS(rd(0, RSR) & BC_OFL, BC_OFL);
+    wr(0, RSR, 0); wr(0, RDBC, 0xFFF0); IS(move_all(0, 1), moved(5, 0)); IS(rd(0, RSR) & (ERR | DTORDY), 0);
+    /* memory overflow, at the third word, which is moved; and INH ADI, which does not come there */
+    plain();
+    wr(0, TSBA, 0xFFFA); wr(0, TSBC, 0); wr(0, TCR, EA | TX_NPR);
+    IS(move_all(0, 0), moved(3, 0)); IS(rd(0, TSR), ERR | MEM_OFL); IS(rd(0, TSBA), 0); IS(move_all(0, 0), 4);
+    wr(0, TSR, 0); wr(0, TSBA, 0xFFFE); wr(0, TCR, EA | TX_NPR | INH_ADI);
+    IS(move_all(0, 0), moved(61, 0)); IS(rd(0, TSR), 0); IS(rd(0, TSBA), 0xFFFE);
+    plain(); sender(2, SND_WD | ST_TXM); wr(1, RCR, RCV_WD | RCV_DAT | RC_NPR | EA); serve(1); serve(1);
+    wr(1, RDBA, 0xFFFE); wr(1, RDBC, 0xFFF0);
+    IS(move_all(1, 1), moved(1, 0)); IS(memory[1][131071], 0x1111); IS(rd(1, RSR) & (ERR | MEM_OFL | DTORDY), ERR | MEM_OFL | DTORDY);
+}
+
+/* Each bit by what sets and clears it, and none of a unit that is not fitted. */
+static void sides_that_want(void)
+{
+    uint32_t every = 0xFFFF;
+
+    l = (struct second_link){ 0 };
+    IS(second_wants_moves(&l), 0); IS(second_wants_interrupts(&l), 0);
+    fit_plain(16, 2, 131072);
+    IS(second_wants_moves(&l), 0); IS(second_wants_interrupts(&l), 0);
+    for (uint32_t u = 0; u < 16; u++) {
+        wr(u, TSBC, 0xFFFC); wr(u, TCR, TX_NPR | IE); IS(second_wants_moves(&l), sides(every >> (15 - u), 0));
+        wr(u, TSR, SORE); IS(second_wants_interrupts(&l), sides(every >> (15 - u), 0));
+    }
+    for (uint32_t u = 0; u < 16; u++) {
+        wr(u, RCR, IE); wr(u, RSR, RECOM); IS(second_wants_interrupts(&l), sides(every, every >> (15 - u)));
+    }
+    /* a word at a receiver: with RC NPR it is to be moved, without it asks for an interrupt */
+    fit_plain(2, 2, 131072);
+    wb(0, TMMR + 1, 0x11); sender(1, SND_WD); wr(1, RCR, RCV_WD | RC_NPR | IE); IS(serve(1), sl(1, 2, 3));
+    IS(second_wants_moves(&l), sides(0, 2)); IS(second_wants_interrupts(&l), 0);
+    wr(1, RCR, RCV_WD | IE); IS(second_wants_moves(&l), 0); IS(second_wants_interrupts(&l), sides(0, 2));
+    wr(1, RCR, RC_NPR | IE); IS(move_all(1, 1), moved(0, 0)); IS(second_wants_moves(&l), 0); IS(second_wants_interrupts(&l), sides(0, 2));
+    wr(0, TCR, IE); IS(second_wants_interrupts(&l), sides(1, 2));
+    /* all that stops a transmitter's moves: a full silo, an error, RD SILO, no load, no TX NPR */
+    plain(); wr(0, TSBC, 0); wr(0, TCR, TX_NPR); IS(second_wants_moves(&l), sides(1, 0));
+    IS(move_all(0, 0), moved(64, 0)); IS(second_wants_moves(&l), 0);
+    plain(); wr(0, TSBC, 0); wr(0, TSR, TIM_OUT); wr(0, TCR, TX_NPR); IS(second_wants_moves(&l), 0);
+    wr(0, TSR, 0); IS(second_wants_moves(&l), sides(1, 0));
+    wr(0, TCR, TX_NPR | RD_SILO); IS(second_wants_moves(&l), 0);
+    wr(0, TCR, 0); IS(second_wants_moves(&l), 0);
+    plain(); wr(1, TCR, TX_NPR); IS(second_wants_moves(&l), 0); wr(1, TSBC, 0xFFFE); IS(second_wants_moves(&l), sides(2, 0));
+    IS(move_all(1, 0), moved(1, 0)); IS(second_wants_moves(&l), 0);
+    keep(); second_wants_moves(&l); second_wants_interrupts(&l); same(__LINE__);
 }
 
 /* 128 words by ST TXM, RCV DAT; the word count of the block is full at both. */
@@ -1135,7 +1242,7 @@ struct message {
     bool silo;
 };
 
-static uint32_t move_all(const struct message *m, uint16_t *source, uint16_t *target)
+static uint32_t move_both(const struct message *m, uint16_t *source, uint16_t *target)
 {
     while (second_move(&l, m->from, 0, source, 131072) == 0)
         ;
@@ -1176,10 +1283,10 @@ static void message(const struct message *m)
     wr(m->from, TSBA, 2 * source); wr(m->from, TSBC, 0x10000 - 2 * m->n);
     wr(m->to, RDBA, 2 * target); wr(m->to, RDBC, m->n % 2 ? 0 : 0x10000 - 2 * m->n);
     wr(m->to, RCR, RCV_WD | RCV_DAT | RC_NPR | (2 * target >> 16 << 4));
-    move_all(m, s, t);
+    move_both(m, s, t);
     wr(m->from, TCR, ((m->to + 11) << 8) | TX_NPR | SND_WD | ST_TXM | (2 * source >> 16 << 4));
     for (;;) {
-        move_all(m, s, t);
+        move_both(m, s, t);
         uint32_t a = second_slice(&l, 0, 0);
         bool mine = (a >> 16) % 32 == address;
         IS(no(a), 0);
@@ -1219,7 +1326,7 @@ int main(void)
 {
     set_ups(); refusals(); register_bits(); data_silos(); master_section(); address_silo();
     single_words(); table(); damage(); rejection(); truncation(); periods(); requests();
-    moves(); missing(); blocks(); others(); restarts(); serials(); demand_3();
+    moves(); missing(); move_all_words(); sides_that_want(); blocks(); others(); restarts(); serials(); demand_3();
     printf("check: %lu checks, %d failures\n", checks, failures);
     return failures != 0;
 }

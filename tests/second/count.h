@@ -85,6 +85,8 @@
     X(rc_move_nxl_first_past) X(rc_move_nxl_777776) X(rc_move_nxl_extended) X(rc_move_nxl_inhibited) \
     X(rc_move_bc_ofl) X(rc_move_nxl) X(rc_move_inhibited) \
     X(rc_move_overflow) X(rc_move_count_0) \
+    X(tx_all_full) X(tx_all_count_0) X(tx_all_nxl) X(tx_all_nxl_at_once) X(tx_all_overflow) \
+    X(rc_all_empty) X(rc_all_bc_ofl) X(rc_all_bc_ofl_at_once) X(rc_all_nxl) X(rc_all_nxl_at_once) X(rc_all_overflow) \
     X(tx_period_not_busy) X(tx_period_mark) X(tx_tim_out) X(tx_tim_out_mark_stays) \
     X(rc_period_not_open) X(rc_period_mark) X(rc_tim_out) \
     X(tx_level_0) X(tx_level_1) X(tx_level_by_tbs_bsy_alone) \
@@ -92,7 +94,7 @@
 
 #define SECOND_CALLS(X) \
     X(fit) X(write) X(write_byte) X(read) X(slice) X(move) X(period) X(reset) \
-    X(interrupt_level) X(serial)
+    X(interrupt_level) X(serial) X(move_all) X(wants_moves) X(wants_interrupts)
 
 #define SECOND_CALL_NAME(name) CALL_##name,
 enum second_call { SECOND_CALLS(SECOND_CALL_NAME) CALLS };

@@ -187,6 +187,43 @@ static uint64_t call_move(uint32_t u, uint32_t side, size_t lent)
     return tally(answer);
 }
 
+/* So many single moves, on copies: the answer, the state, and the words. */
+static uint64_t call_move_all(uint32_t u, uint32_t side, size_t lent)
+{
+    static struct second_link copy;
+    static uint16_t words[131072];
+    size_t size = unit_at(u)->memory_length * sizeof words[0];
+    uint64_t answer, single;
+
+    copy = l;
+    memcpy(words, memory[u % 16], size);
+    answer = second_move_all(&l, u, side, memory[u % 16], lent);
+    for (uint64_t next = single = second_move(&copy, u, side, words, lent); pcl_number(next) == PCL_DONE;
+         next = second_move(&copy, u, side, words, lent))
+        single = next;
+    must(pcl_number(answer) == pcl_number(single) && pcl_missing(answer) == pcl_missing(single), "not the single moves' answer");
+    must(!memcmp(&copy, &l, sizeof l) && !memcmp(words, memory[u % 16], size), "not the single moves' state");
+    must(pcl_words_moved(answer) <= 64, "more words than a silo holds");
+    return tally(answer);
+}
+
+/* Each bit by the call at its side, on a copy. */
+static void call_wants(void)
+{
+    static struct second_link copy;
+    static uint16_t words[131072];
+    uint64_t moves = tally(second_wants_moves(&l)), levels = tally(second_wants_interrupts(&l));
+
+    copy = l;
+    for (uint32_t u = 0; u < SECOND_UNITS; u++)
+        for (uint32_t side = 0; side < 2; side++) {
+            bool moved = pcl_number(second_move(&copy, u, side, words, 131072)) == PCL_DONE;
+
+            must(((pcl_sides(moves) & pcl_side_bit(u, side)) != 0) == moved, "not the bit of the move");
+            must(((pcl_sides(levels) & pcl_side_bit(u, side)) != 0) == (second_interrupt_level(&l, u, side) >> 16), "not the level's bit");
+        }
+}
+
 static uint32_t call_period(uint32_t u) { return (uint32_t)tally(second_period(&l, u)); }
 static uint32_t call_reset(uint32_t u) { return (uint32_t)tally(second_reset(&l, u)); }
 static uint32_t call_level(uint32_t u, uint32_t side) { return (uint32_t)tally(second_interrupt_level(&l, u, side)); }

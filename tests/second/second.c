@@ -1675,6 +1675,12 @@ static uint64_t move_source(struct second_unit *u, const uint16_t *memory)
     return 0;
 }
 
+/* "Receiver: RC NPR, a word, no ERR; else 4." */
+static bool destination_may_move(const struct second_receiver *r)
+{
+    return has(&r->side, NPR) && r->side.silo.held && !error(&r->side);
+}
+
 /* An error met by the receiver's move: "the word stays where it was; these ..
  * come with number 0". */
 static uint64_t destination_error(struct second_receiver *r, unsigned bit)
@@ -1683,14 +1689,13 @@ static uint64_t destination_error(struct second_receiver *r, unsigned bit)
     return bit == NON_EXISTENT ? missing(&r->side) : 0;
 }
 
-/* "Receiver: RC NPR, a word, no ERR; else 4. Not loaded: BC OFL. Else alike,
- * storing, but count 0 leaves RC NPR set." */
+/* "Not loaded: BC OFL. Else alike, storing, but count 0 leaves RC NPR set." */
 static uint64_t move_destination(struct second_unit *u, uint16_t *memory)
 {
     struct second_receiver *r = &u->receiver;
     uint32_t place = full_address(&r->side) / 2;
 
-    if (!has(&r->side, NPR) || !r->side.silo.held || error(&r->side)) {
+    if (!destination_may_move(r)) {
         count_destination_refused(&r->side);
         return 4;
     }
@@ -1727,6 +1732,44 @@ static uint64_t move(struct second_link *l, uint32_t unit, uint32_t side,
         return 1;
     return side ? move_destination(&l->unit[unit], memory)
                 : move_source(&l->unit[unit], memory);
+}
+
+/* Counting alone: what ended the moves of a side, after so many words. */
+static void count_transfer(const struct second_side *s, bool transmits, uint64_t words)
+{
+    COUNT_IF(transmits && !room(&s->silo), tx_all_full);
+    COUNT_IF(transmits && !s->loaded && !error(s), tx_all_count_0);
+    COUNT_IF(transmits && words && s->status & NON_EXISTENT, tx_all_nxl);
+    COUNT_IF(transmits && !words, tx_all_nxl_at_once);
+    COUNT_IF(transmits && s->status & MEMORY_OVERFLOW, tx_all_overflow);
+    COUNT_IF(!transmits && !s->silo.held, rc_all_empty);
+    COUNT_IF(!transmits && words && s->status & COUNT_OVERFLOW, rc_all_bc_ofl);
+    COUNT_IF(!transmits && !words && s->status & COUNT_OVERFLOW, rc_all_bc_ofl_at_once);
+    COUNT_IF(!transmits && words && s->status & NON_EXISTENT, rc_all_nxl);
+    COUNT_IF(!transmits && !words && s->status & NON_EXISTENT, rc_all_nxl_at_once);
+    COUNT_IF(!transmits && s->status & MEMORY_OVERFLOW, rc_all_overflow);
+}
+
+/* "moves until 4, or until a move sets NXL, BC OFL or memory overflow": each of
+ * these is an error, and before a move that is done there is none.  "A word meeting
+ * NXL or BC OFL stays where it was", and is none of those moved. */
+static uint64_t move_all(struct second_link *l, uint32_t unit, uint32_t side,
+                         uint16_t *memory, size_t memory_length)
+{
+    const struct second_unit *u = &l->unit[unit % SECOND_UNITS];
+    const struct second_side *s = side ? &u->receiver.side : &u->transmitter.side;
+    uint64_t answer = move(l, unit, side, memory, memory_length), words = 0;
+
+    if (answer & 0xFFFF)
+        return answer;
+    for (uint64_t next = answer; next != 4;
+         next = error(s) ? 4 : move(l, unit, side, memory, memory_length)) {
+        answer = next;
+        if (!(s->status & (NON_EXISTENT | COUNT_OVERFLOW)))
+            words++;
+    }
+    count_transfer(s, !side, words);
+    return answer + (words << 34);
 }
 
 /* "A period call on a BUSY transmitter .. sets a mark; with the mark standing,
@@ -1785,6 +1828,35 @@ static bool receiver_level(const struct second_side *s)
     COUNT_IF(level, rc_level_1);
     COUNT_IF(level && !others, rc_level_by_dtordy_alone);
     return level;
+}
+
+/* A mask out of what is asked of each side: "bit u the transmitter of unit u, bit
+ * 16 + u its receiver". */
+static uint64_t side_bits(uint32_t unit, bool transmitter, bool receiver)
+{
+    return (uint64_t)transmitter << unit | (uint64_t)receiver << (16 + unit);
+}
+
+/* "sides at which a move would not answer 4": those of the fitted units. */
+static uint64_t wants_moves(const struct second_link *l)
+{
+    uint64_t sides = 0;
+
+    for (uint32_t unit = 0; unit < l->units; unit++)
+        sides |= side_bits(unit, source_may_move(&l->unit[unit].transmitter),
+                           destination_may_move(&l->unit[unit].receiver));
+    return sides << 16;
+}
+
+/* "sides whose interrupt level stands". */
+static uint64_t wants_interrupts(const struct second_link *l)
+{
+    uint64_t sides = 0;
+
+    for (uint32_t unit = 0; unit < l->units; unit++)
+        sides |= side_bits(unit, transmitter_level(&l->unit[unit].transmitter.side),
+                           receiver_level(&l->unit[unit].receiver.side));
+    return sides << 16;
 }
 
 /* Period (unit): both its sides. */
@@ -1869,6 +1941,27 @@ uint64_t second_move(struct second_link *l, uint32_t unit, uint32_t side,
 
     answered(CALL_move, (uint32_t)(answer & 0xFFFF));
     return answer;
+}
+
+uint64_t second_move_all(struct second_link *l, uint32_t unit, uint32_t side,
+                         uint16_t *memory, size_t memory_length)
+{
+    uint64_t answer = move_all(l, unit, side, memory, memory_length);
+
+    answered(CALL_move_all, (uint32_t)(answer & 0xFFFF));
+    return answer;
+}
+
+uint64_t second_wants_moves(const struct second_link *l)
+{
+    answered(CALL_wants_moves, 0);
+    return wants_moves(l);
+}
+
+uint64_t second_wants_interrupts(const struct second_link *l)
+{
+    answered(CALL_wants_interrupts, 0);
+    return wants_interrupts(l);
 }
 
 uint32_t second_period(struct second_link *l, uint32_t unit)

@@ -5,8 +5,10 @@
  * state.  Every call answers one number: number + 65536 * value.  The value is
  * the word of a read answered 0, the 0 or 1 of an interrupt level answered 0,
  * the serial of a serial call answered 0, for a slice answered 0: address + 32 * A
- * + 128 * B, and for a move that set NXL the byte address it tried.  Else it is 0.
- * A byte address has 18 bits, so that a move answers 64. */
+ * + 128 * B, for a move that set NXL the byte address it tried, for all moves of a
+ * side that address + 2^18 * the words moved, and for the sides that want service a
+ * mask of 32 bits.  Else it is 0.  These last need more than 16 bits, so that their
+ * calls answer 64. */
 #ifndef SECOND_H
 #define SECOND_H
 
@@ -99,6 +101,13 @@ uint32_t second_slice(struct second_link *l, uint16_t data_mask, uint32_t parity
 /* side 0 transmits, 1 receives; memory is that of the named unit. */
 uint64_t second_move(struct second_link *l, uint32_t unit, uint32_t side,
                      uint16_t *memory, size_t memory_length);
+/* "moves until 4, or until a move sets NXL, BC OFL or memory overflow" */
+uint64_t second_move_all(struct second_link *l, uint32_t unit, uint32_t side,
+                         uint16_t *memory, size_t memory_length);
+/* "sides at which a move would not answer 4", and "sides whose interrupt level
+ * stands": bit u the transmitter of unit u, bit 16 + u its receiver. */
+uint64_t second_wants_moves(const struct second_link *l);
+uint64_t second_wants_interrupts(const struct second_link *l);
 uint32_t second_period(struct second_link *l, uint32_t unit);
 uint32_t second_reset(struct second_link *l, uint32_t unit);
 uint32_t second_interrupt_level(struct second_link *l, uint32_t unit, uint32_t side);

@@ -1,5 +1,4 @@
-// Memory moves, periods, interrupt levels and serials of one fitted unit, on the lent cells.
-pub mod levels;
+// Memory moves, periods and serials of one fitted unit, on the lent cells.
 pub mod moving;
 pub mod periods;
 pub mod serials;

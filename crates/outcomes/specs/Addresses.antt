@@ -1,5 +1,6 @@
 -- Document 02, No. 8, of every call: what a fit answered 0 leaves has an index that says what the look-through says, and no other call changes
--- the index or an address. (`channels` has it of every run of calls. A level and a serial are lent the cells to read alone.)
+-- the index or an address. (`channels` has it of every run of calls. A transfer is so many moves (`Transfers`); a level, a serial and who
+-- wants service are lent the cells to read alone.)
 -- Assumes nothing.
 use mathlib.Core.List.{List}
 use mathlib.Core.Path.{_≡_}

@@ -3,5 +3,7 @@ pub mod Frames
 pub mod Missing
 pub mod Ranges
 pub mod Refusals
+pub mod Transfers
 pub mod Unchanged
+pub mod Wants
 pub mod laws

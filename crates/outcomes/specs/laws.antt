@@ -1,3 +1,4 @@
 pub mod FitRanged
+pub mod MoveCalls
 pub mod RefusedSides
 pub mod RefusedUnits

@@ -1,14 +1,15 @@
 -- The contract of each public function: what it promises of its outcome, for every argument and everything lent. It is all that the
 -- function's `ensures` says.
--- An outcome is the answer, the cells as they are left, and for a move the memory as it is left. What is lent to be read alone, a set-up
--- and the cells of a level or of a serial, stays as it was.
+-- An outcome is the answer, the cells as they are left, and for a move and a transfer the memory as it is left. What is lent to be read
+-- alone, a set-up and the cells of a level, of a serial or of who wants service, stays as it was.
 -- Assumes nothing.
 use mathlib.Core.List.{List}
 use mathlib.Core.Path.{_≡_}
 use Prim.Native.Nat.{ℕ}
 use Rattle.pcl.specs.Calls.{readCall, writeCall, byteCall, resetCall, periodCall}
-use Rattle.pcl.specs.Face.{fitFace, sliceFace, readFace, writeFace, byteFace, resetFace, periodFace, moveFace, levelFace, serialFace}
+use Rattle.pcl.specs.Face.{fitFace, sliceFace, readFace, writeFace, byteFace, resetFace, periodFace, moveFace, levelFace, serialFace, wantsMovesFace, wantsInterruptsFace, transferFace}
 use Rattle.pcl.specs.Link.{fitCall, sliceCall}
+use Rattle.pcl.specs.Service.{wantsMovesCall, wantsInterruptsCall, transferCall}
 use Rattle.pcl.specs.Sides.{moveCall, levelCall, serialCall}
 use Rattle.pcl.specs.declared.answers.FitCall.{FitCall}
 use Rattle.pcl.specs.declared.answers.LevelCall.{LevelCall}
@@ -16,7 +17,9 @@ use Rattle.pcl.specs.declared.answers.MoveCall.{MoveCall}
 use Rattle.pcl.specs.declared.answers.ReadCall.{ReadCall}
 use Rattle.pcl.specs.declared.answers.SerialCall.{SerialCall}
 use Rattle.pcl.specs.declared.answers.SliceCall.{SliceCall}
+use Rattle.pcl.specs.declared.answers.TransferCall.{TransferCall}
 use Rattle.pcl.specs.declared.answers.UnitCall.{UnitCall}
+use Rattle.pcl.specs.declared.answers.WantsCall.{WantsCall}
 use Rattle.pcl.specs.declared.answers.WriteCall.{WriteCall}
 
 -- ---- for Rattle
@@ -51,6 +54,15 @@ LevelOutcome cells unit side outcome = outcome ≡ levelCall cells unit side
 abbrev pub SerialOutcome : List ℕ → ℕ → ℕ → SerialCall → Type 0
 SerialOutcome cells unit side outcome = outcome ≡ serialCall cells unit side
 
+abbrev pub WantsMovesOutcome : List ℕ → WantsCall → Type 0
+WantsMovesOutcome cells outcome = outcome ≡ wantsMovesCall cells
+
+abbrev pub WantsInterruptsOutcome : List ℕ → WantsCall → Type 0
+WantsInterruptsOutcome cells outcome = outcome ≡ wantsInterruptsCall cells
+
+abbrev pub TransferOutcome : List ℕ → List ℕ → ℕ → ℕ → TransferCall × List ℕ × List ℕ → Type 0
+TransferOutcome cells memory unit side outcome = outcome ≡ transferCall cells memory unit side
+
 -- ---- for C: the packed number
 
 abbrev pub FitFaceOutcome : List ℕ → List ℕ → ℕ × List ℕ → Type 0
@@ -82,3 +94,12 @@ LevelFaceOutcome cells unit side outcome = outcome ≡ levelFace cells unit side
 
 abbrev pub SerialFaceOutcome : List ℕ → ℕ → ℕ → ℕ → Type 0
 SerialFaceOutcome cells unit side outcome = outcome ≡ serialFace cells unit side
+
+abbrev pub WantsMovesFaceOutcome : List ℕ → ℕ → Type 0
+WantsMovesFaceOutcome cells outcome = outcome ≡ wantsMovesFace cells
+
+abbrev pub WantsInterruptsFaceOutcome : List ℕ → ℕ → Type 0
+WantsInterruptsFaceOutcome cells outcome = outcome ≡ wantsInterruptsFace cells
+
+abbrev pub TransferFaceOutcome : List ℕ → List ℕ → ℕ → ℕ → ℕ × List ℕ × List ℕ → Type 0
+TransferFaceOutcome cells memory unit side outcome = outcome ≡ transferFace cells memory unit side

@@ -5,5 +5,6 @@ pub mod Link
 pub mod Numbers
 pub mod One
 pub mod Room
+pub mod Service
 pub mod Sides
 pub mod laws

@@ -1,10 +1,11 @@
 -- Document 01, Numbers: the number of each call's answer, and its value. C gets one number, the value 65,536 times over the number
--- (docs/DECISIONS.md, "What C gets"): in 32 bits, and in 64 that of a move, whose value has 18.
+-- (docs/DECISIONS.md, "What C gets"): in 32 bits, and in 64 where the value has more than 16.
 -- Assumes nothing.
-use Prim.Native.Nat.{ℕ, _+_, _*_, _/_, _%_}
+use Prim.Native.Nat.{ℕ, _+_, _*_, _/_, _%_, _^_}
 use Rattle.bus.specs.declared.slice.Given.{Given}
 use Rattle.bus.specs.declared.slice.Slot.{Slot}
 use Rattle.laws.specs.Bits.{bit}
+use Rattle.service.specs.declared.transfers.Transfer.{Transfer}
 use Rattle.words.specs.Answers.{readNumber, readWord, writeNumber, moveNumber, moveValue}
 use Rattle.pcl.specs.declared.answers.FitCall.{FitCall}
 use Rattle.pcl.specs.declared.answers.LevelCall.{LevelCall}
@@ -12,7 +13,9 @@ use Rattle.pcl.specs.declared.answers.MoveCall.{MoveCall}
 use Rattle.pcl.specs.declared.answers.ReadCall.{ReadCall}
 use Rattle.pcl.specs.declared.answers.SerialCall.{SerialCall}
 use Rattle.pcl.specs.declared.answers.SliceCall.{SliceCall}
+use Rattle.pcl.specs.declared.answers.TransferCall.{TransferCall}
 use Rattle.pcl.specs.declared.answers.UnitCall.{UnitCall}
+use Rattle.pcl.specs.declared.answers.WantsCall.{WantsCall}
 use Rattle.pcl.specs.declared.answers.WriteCall.{WriteCall}
 
 -- 9 "a lent state outside the ranges docs/ lists"; 1 "unit not fitted"
@@ -121,3 +124,46 @@ bOf value = value / 128 % 4
 
 abbrev pub slicePacked : SliceCall → ℕ
 slicePacked c = sliceNumber c + sliceValue c * 65536
+
+-- which sides want service: a mask of 32 bits
+abbrev pub wantsNumber : WantsCall → ℕ
+wantsNumber WantsCall.BadState = 9
+wantsNumber (WantsCall.Sides mask) = 0
+
+abbrev pub wantsValue : WantsCall → ℕ
+wantsValue WantsCall.BadState = 0
+wantsValue (WantsCall.Sides mask) = mask
+
+abbrev pub wantsPacked : WantsCall → ℕ
+wantsPacked c = wantsNumber c + wantsValue c * 65536
+
+-- a whole transfer: 4 "nothing to .. move", where its first move answers 4
+abbrev pub transferredNumber : Transfer → ℕ
+transferredNumber Transfer.Nothing = 4
+transferredNumber (Transfer.Words words) = 0
+transferredNumber (Transfer.Missing words address) = 0
+
+abbrev pub transferNumber : TransferCall → ℕ
+transferNumber TransferCall.BadState = 9
+transferNumber TransferCall.NoUnit = 1
+transferNumber (TransferCall.Side t) = transferredNumber t
+
+-- its value: the address that was missing, in 18 bits, 0 where none was; and above it the count of words moved
+abbrev pub transferredValue : Transfer → ℕ
+transferredValue Transfer.Nothing = 0
+transferredValue (Transfer.Words words) = words * 2 ^ 18
+transferredValue (Transfer.Missing words address) = address + words * 2 ^ 18
+
+abbrev pub transferValue : TransferCall → ℕ
+transferValue TransferCall.BadState = 0
+transferValue TransferCall.NoUnit = 0
+transferValue (TransferCall.Side t) = transferredValue t
+
+abbrev pub missingIn : ℕ → ℕ
+missingIn value = value % 2 ^ 18
+
+abbrev pub wordsMovedIn : ℕ → ℕ
+wordsMovedIn value = value / 2 ^ 18
+
+abbrev pub transferPacked : TransferCall → ℕ
+transferPacked c = transferNumber c + transferValue c * 65536

@@ -4,7 +4,7 @@
 use mathlib.Core.List.{List}
 use mathlib.Core.Path.{_≡_, sym, _∙_}
 use Prim.Native.Nat.{ℕ}
-use Rattle.pcl.specs.Contracts.{FitOutcome, SliceOutcome, ReadOutcome, WriteOutcome, ByteOutcome, ResetOutcome, PeriodOutcome, MoveOutcome, LevelOutcome, SerialOutcome, FitFaceOutcome, SliceFaceOutcome, ReadFaceOutcome, WriteFaceOutcome, ByteFaceOutcome, ResetFaceOutcome, PeriodFaceOutcome, MoveFaceOutcome, LevelFaceOutcome, SerialFaceOutcome}
+use Rattle.pcl.specs.Contracts.{FitOutcome, SliceOutcome, ReadOutcome, WriteOutcome, ByteOutcome, ResetOutcome, PeriodOutcome, MoveOutcome, LevelOutcome, SerialOutcome, WantsMovesOutcome, WantsInterruptsOutcome, TransferOutcome, FitFaceOutcome, SliceFaceOutcome, ReadFaceOutcome, WriteFaceOutcome, ByteFaceOutcome, ResetFaceOutcome, PeriodFaceOutcome, MoveFaceOutcome, LevelFaceOutcome, SerialFaceOutcome, WantsMovesFaceOutcome, WantsInterruptsFaceOutcome, TransferFaceOutcome}
 
 abbrev pub Single : {A : Type 0} → (A → Type 0) → Type 0
 Single {A} Contract = (x y : A) → Contract x → Contract y → x ≡ y
@@ -43,3 +43,12 @@ module _ (cells : List ℕ) where
 
   pub one-serial : (unit side : ℕ) → Single (SerialOutcome cells unit side) × Single (SerialFaceOutcome cells unit side)
   one-serial unit side = (single _, single _)
+
+  pub one-wants-moves : Single (WantsMovesOutcome cells) × Single (WantsMovesFaceOutcome cells)
+  one-wants-moves = (single _, single _)
+
+  pub one-wants-interrupts : Single (WantsInterruptsOutcome cells) × Single (WantsInterruptsFaceOutcome cells)
+  one-wants-interrupts = (single _, single _)
+
+  pub one-transfer : (memory : List ℕ) (unit side : ℕ) → Single (TransferOutcome cells memory unit side) × Single (TransferFaceOutcome cells memory unit side)
+  one-transfer memory unit side = (single _, single _)

@@ -1,5 +1,6 @@
 // What the calls answer.
 use bus::slice::Slot;
+use service::transfers::Transfer;
 use words::answers::Move;
 use words::answers::Read;
 use words::answers::Write;
@@ -58,4 +59,17 @@ pub enum UnitCall {
     BadState,
     NoUnit,
     Done,
+}
+
+// Which sides want service: the lent state is out of range, or a bit for each side.
+pub enum WantsCall {
+    BadState,
+    Sides(u32),
+}
+
+// A whole transfer: as a memory move, and what the side does.
+pub enum TransferCall {
+    BadState,
+    NoUnit,
+    Side(Transfer),
 }

@@ -13,11 +13,16 @@ use crate::packing::pack_move;
 use crate::packing::pack_read;
 use crate::packing::pack_serial;
 use crate::packing::pack_slice;
+use crate::packing::pack_transfer;
+use crate::packing::pack_wants;
 use crate::packing::pack_write;
+use crate::serving::move_all;
+use crate::serving::wants_interrupts;
+use crate::serving::wants_moves;
 use crate::sides::level;
 use crate::sides::move_word;
 use crate::sides::serial;
-ghost use Rattle.pcl.specs.Contracts.{FitFaceOutcome, ReadFaceOutcome, WriteFaceOutcome, ByteFaceOutcome, ResetFaceOutcome, SliceFaceOutcome, MoveFaceOutcome, PeriodFaceOutcome, LevelFaceOutcome, SerialFaceOutcome};
+ghost use Rattle.pcl.specs.Contracts.{FitFaceOutcome, ReadFaceOutcome, WriteFaceOutcome, ByteFaceOutcome, ResetFaceOutcome, SliceFaceOutcome, MoveFaceOutcome, PeriodFaceOutcome, LevelFaceOutcome, SerialFaceOutcome, WantsMovesFaceOutcome, WantsInterruptsFaceOutcome, TransferFaceOutcome};
 
 #[no_mangle]
 pub extern "C" fn pcl_fit(cells: &mut [u16], setup: &[u32]) -> u32
@@ -87,4 +92,25 @@ pub extern "C" fn pcl_serial(cells: &[u16], unit: u32, side: u32) -> u32
     ensures { λ r. ⌜ SerialFaceOutcome (now (cells .entry)) unit side r ⌝ }
 {
     pack_serial(serial(cells, unit, side))
+}
+
+#[no_mangle]
+pub extern "C" fn pcl_wants_moves(cells: &[u16]) -> u64
+    ensures { λ r. ⌜ WantsMovesFaceOutcome (now (cells .entry)) r ⌝ }
+{
+    pack_wants(wants_moves(cells))
+}
+
+#[no_mangle]
+pub extern "C" fn pcl_wants_interrupts(cells: &[u16]) -> u64
+    ensures { λ r. ⌜ WantsInterruptsFaceOutcome (now (cells .entry)) r ⌝ }
+{
+    pack_wants(wants_interrupts(cells))
+}
+
+#[no_mangle]
+pub extern "C" fn pcl_move_all(cells: &mut [u16], memory: &mut [u16], unit: u32, side: u32) -> u64
+    ensures { λ r. ⌜ TransferFaceOutcome (now (cells .entry)) (now (memory .entry)) unit side (r, now (cells .exit), now (memory .exit)) ⌝ }
+{
+    pack_transfer(move_all(cells, memory, unit, side))
 }

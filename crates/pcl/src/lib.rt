@@ -5,5 +5,6 @@ pub mod calls;
 pub mod face;
 pub mod link;
 mod packing;
+pub mod serving;
 pub mod sides;
 mod units;

@@ -1,21 +1,24 @@
-// The plain number that C gets: document 01's number below, the value above it. That of a move has 64 bits, for its value has 18.
+// The plain number that C gets: document 01's number below, the value above it. It has 64 bits where the value has more than 16.
 use crate::answers::FitCall;
 use crate::answers::LevelCall;
 use crate::answers::MoveCall;
 use crate::answers::ReadCall;
 use crate::answers::SerialCall;
 use crate::answers::SliceCall;
+use crate::answers::TransferCall;
 use crate::answers::UnitCall;
+use crate::answers::WantsCall;
 use crate::answers::WriteCall;
 use bus::slice::Given;
 use bus::slice::Slot;
+use service::transfers::Transfer;
 use words::answers::Move;
 use words::answers::Read;
 use words::answers::Write;
 ghost use mathlib.Core.Path.{_≡_};
-ghost use Rattle.pcl.specs.Numbers.{readPacked, writeCallNumber, doneNumber, fitNumber, movePacked, levelPacked, serialPacked, slicePacked};
+ghost use Rattle.pcl.specs.Numbers.{readPacked, writeCallNumber, doneNumber, fitNumber, movePacked, levelPacked, serialPacked, slicePacked, wantsPacked, transferPacked};
 ghost use Rattle.pcl.specs.laws.Narrow.{Narrow, NarrowSlot, NarrowCall};
-ghost use Rattle.pcl.specs.laws.Packed.{foundPacked, movedPacked, givenPacked, slotPacked};
+ghost use Rattle.pcl.specs.laws.Packed.{foundPacked, movedPacked, givenPacked, slotPacked, transferredPacked};
 ghost use Rattle.words.specs.Answers.{writeNumber};
 
 fn pack_found(read: Read) -> u32
@@ -147,5 +150,35 @@ pub fn pack_slice(call: SliceCall) -> u32
         SliceCall::BadState => 9,
         SliceCall::BadMask => 7,
         SliceCall::Passed(slot) => pack_slot(slot),
+    }
+}
+
+pub fn pack_wants(call: WantsCall) -> u64
+    ensures { λ r. ⌜ r ≡ wantsPacked call ⌝ }
+{
+    match call {
+        WantsCall::BadState => 9,
+        WantsCall::Sides(mask) => mask as u64 * 65536,
+    }
+}
+
+// The address takes 18 bits, and the count of words stands above it.
+fn pack_transferred(transfer: Transfer) -> u64
+    ensures { λ r. ⌜ r ≡ transferredPacked transfer ⌝ }
+{
+    match transfer {
+        Transfer::Nothing => 4,
+        Transfer::Words(words) => words as u64 * 262144 * 65536,
+        Transfer::Missing(words, address) => (address as u64 + words as u64 * 262144) * 65536,
+    }
+}
+
+pub fn pack_transfer(call: TransferCall) -> u64
+    ensures { λ r. ⌜ r ≡ transferPacked call ⌝ }
+{
+    match call {
+        TransferCall::BadState => 9,
+        TransferCall::NoUnit => 1,
+        TransferCall::Side(transfer) => pack_transferred(transfer),
     }
 }

@@ -1,6 +1,6 @@
 -- A plain move, on the cells of a side's window.
 -- Assumes nothing.
-use mathlib.Core.Bool.{Bool, true, false, _&&_}
+use mathlib.Core.Bool.{Bool, true, false, _&&_, _||_}
 use mathlib.Core.Path.{_≡_}
 use mathlib.Core.List.{List, [], _∷_, _++_}
 use Prim.Native.Nat.{ℕ, _+_, _*_, _^_, _≤_, _<_}
@@ -30,6 +30,17 @@ pub record Plain (block own limit low count control : ℕ) (busy : Bool) : Type 
   pub loaded : bitAt control 1 ≡ true
   pub goes : bitAt control 2 ≡ false
   pub marked : bitAt control 3 && busy ≡ bitAt control 3
+
+-- a transmitter's head at a place of the cells: besides, it is not ending and awaits no verdict
+pub record PlainOut (cells : List ℕ) (at : ℕ) : Type 0 where
+  pub head : Plain (cell cells (at + 1)) (cell cells (at + 2)) 32 (cell cells (at + 3)) (cell cells (at + 4)) (cell cells (at + 5)) (bitAt (cell cells (at + 5)) 13 || bitAt (cell cells (at + 6)) 6)
+  pub going : bitAt (cell cells (at + 6)) 8 ≡ false
+  pub settled : cell cells (at + 6) < 2 ^ 15
+
+-- a receiver's: besides, its silo's length is one that a silo can have
+pub record PlainIn (cells : List ℕ) (at : ℕ) : Type 0 where
+  pub head : Plain (cell cells (at + 1)) (cell cells (at + 2)) 1 (cell cells (at + 3)) (cell cells (at + 4)) (cell cells (at + 5)) (bitAt (cell cells (at + 6)) 4)
+  pub few : cell cells at < 4160
 
 -- the word of the memory that a load names: EA17 and EA16 above 15 bits
 abbrev pub wordAt : ℕ → ℕ → ℕ

@@ -18,7 +18,7 @@ ghost use Rattle.cells.specs.Layout.{memoryLength};
 ghost use Rattle.codec.specs.Window.{cell, splice};
 ghost use Rattle.laws.specs.Pick.{pick};
 ghost use Rattle.plain.specs.Places.{front};
-ghost use Rattle.plain_moves.specs.Moving.{Plain, wordAt, headMoved, wordPut, wordTaken, transmitterLoaded, receiverStored};
+ghost use Rattle.plain_moves.specs.Moving.{Plain, PlainOut, PlainIn, wordAt, headMoved, wordPut, wordTaken, transmitterLoaded, receiverStored};
 ghost use Rattle.receiver.specs.Moves as R;
 ghost use Rattle.transmitter.specs.Moves as T;
 ghost use Rattle.words.specs.declared.answers.Move.{Move};
@@ -74,8 +74,47 @@ fn is_plain(
         & ((control / 8 % 2 == 0) | busy)
 }
 
+// Whether a transmitter's head at a place is plain. It is not ending, then, and awaits no verdict.
+pub fn is_plain_out(cells: &[u16], at: usize) -> bool
+    requires { ⌜ at + 73 ≤ length (now cells) ⌝ }
+    ensures { λ r. ⌜ (r ≡ true → PlainOut (now (cells .entry)) at) ⌝ }
+{
+    let control = cells[at + 5];
+    let status = cells[at + 6];
+    let busy = (control / 8192 % 2 == 1) | (status / 64 % 2 == 1);
+    is_plain(
+        cells[at + 1],
+        cells[at + 2],
+        32,
+        cells[at + 3],
+        cells[at + 4],
+        control,
+        busy,
+    )
+        & !(status / 256 % 2 == 1)
+        & (status < 32768)
+}
+
+// Whether a receiver's is. A length above 64 reads as 64.
+pub fn is_plain_in(cells: &[u16], at: usize) -> bool
+    requires { ⌜ at + 73 ≤ length (now cells) ⌝ }
+    ensures { λ r. ⌜ (r ≡ true → PlainIn (now (cells .entry)) at) ⌝ }
+{
+    let busy = cells[at + 6] / 16 % 2 == 1;
+    is_plain(
+        cells[at + 1],
+        cells[at + 2],
+        1,
+        cells[at + 3],
+        cells[at + 4],
+        cells[at + 5],
+        busy,
+    )
+        & (cells[at] < 4160)
+}
+
 // The word of the memory that a load names.
-fn place(low: u16, control: u16) -> usize
+pub fn place(low: u16, control: u16) -> usize
     ensures { λ r. ⌜ r ≡ wordAt low control ⌝ }
 {
     (control / 16 % 4) as usize * 32768 + low as usize
@@ -128,27 +167,10 @@ pub fn load_plain(cells: &mut [u16], memory: &[u16], unit: usize) -> bool
     ensures { λ r. ⌜ _≡_ {A = Move × List ℕ} (Move.Done, now (cells .exit)) (pick r (transmitterLoaded (now (cells .entry)) (now (memory .entry)) unit) (Move.Done, now (cells .entry))) ⌝ }
 {
     let at = HEADER + unit * BLOCK + TRANSMITTER;
-    let low = cells[at + 3];
-    let control = cells[at + 5];
-    let status = cells[at + 6];
-    if !is_plain(
-        cells[at + 1],
-        cells[at + 2],
-        32,
-        low,
-        cells[at + 4],
-        control,
-        (control / 8192 % 2 == 1) | (status / 64 % 2 == 1),
-    ) {
+    if !is_plain_out(cells, at) {
         return false;
     }
-    if status / 256 % 2 == 1 {
-        return false;
-    }
-    if status > 32767 {
-        return false;
-    }
-    let from = place(low, control);
+    let from = place(cells[at + 3], cells[at + 5]);
     if from < memory_length(cells, unit) {
         put_word(cells, at, memory[from]);
         return true;
@@ -162,25 +184,10 @@ pub fn store_plain(cells: &mut [u16], memory: &mut [u16], unit: usize) -> bool
     ensures { λ r. ⌜ _≡_ {A = Move × List ℕ × List ℕ} (Move.Done, now (cells .exit), now (memory .exit)) (pick r (receiverStored (now (cells .entry)) (now (memory .entry)) unit) (Move.Done, now (cells .entry), now (memory .entry))) ⌝ }
 {
     let at = HEADER + unit * BLOCK + RECEIVER;
-    let low = cells[at + 3];
-    let control = cells[at + 5];
-    let status = cells[at + 6];
-    if !is_plain(
-        cells[at + 1],
-        cells[at + 2],
-        1,
-        low,
-        cells[at + 4],
-        control,
-        status / 16 % 2 == 1,
-    ) {
+    if !is_plain_in(cells, at) {
         return false;
     }
-    // A length above 64 reads as 64.
-    if cells[at] >= 4160 {
-        return false;
-    }
-    let to = place(low, control);
+    let to = place(cells[at + 3], cells[at + 5]);
     if to < memory_length(cells, unit) {
         let oldest = take_word(cells, at);
         memory[to] = oldest;

@@ -4,5 +4,6 @@ pub mod Kinds
 pub mod Opening
 pub mod Reports
 pub mod Statement
+pub mod Transfers
 pub mod World
 pub mod laws

@@ -1,5 +1,5 @@
 -- The world of a run: the lent cells and every unit's memory. An event is a public call with any arguments, or a host's write in a
--- memory.
+-- memory. All moves of a side at once are so many moves (`Transfers`), and who wants service leaves everything.
 -- Assumes nothing.
 use mathlib.Core.List.{List, [], _∷_}
 use Prim.Native.Nat.{ℕ, _^_, _<_}

@@ -5,7 +5,6 @@ pub mod Exchanges
 pub mod Follows
 pub mod Memories
 pub mod MoveAnswers
-pub mod MoveCalls
 pub mod MoveEvents
 pub mod Opened
 pub mod Opens

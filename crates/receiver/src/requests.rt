@@ -1,10 +1,8 @@
-// Requests, and the interrupt level.
+// Requests.
 use crate::side::Faults;
 use crate::side::Receiver;
-use crate::side::has_error;
-use crate::side::is_data_out_ready;
 ghost use mathlib.Core.Path.{_≡_};
-ghost use Rattle.receiver.specs.Requests.{requested, settled, failed, levelOf};
+ghost use Rattle.receiver.specs.Requests.{requested, settled, failed};
 
 // A request clears RCV WD and RCV DAT.
 pub fn request(r: Receiver) -> Receiver
@@ -33,14 +31,4 @@ pub fn fail(r: Receiver, faults: Faults) -> Receiver
     let mut next = r;
     next.faults = faults;
     settle(request(next))
-}
-
-pub fn level(r: Receiver) -> bool
-    ensures { λ x. ⌜ x ≡ levelOf r ⌝ }
-{
-    let standing = has_error(r)
-        | r.outcome.success
-        | r.outcome.rejectComplete
-        | (is_data_out_ready(r) & !r.modes.memoryRequests);
-    r.modes.interruptEnable & standing
 }

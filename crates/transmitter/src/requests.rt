@@ -1,10 +1,9 @@
-// Requests, and the interrupt level.
+// Requests.
 use crate::side::Faults;
 use crate::side::Transmitter;
-use crate::side::has_error;
 use crate::side::is_busy;
 ghost use mathlib.Core.Path.{_≡_};
-ghost use Rattle.transmitter.specs.Requests.{requested, settled, failed, levelOf};
+ghost use Rattle.transmitter.specs.Requests.{requested, settled, failed};
 
 // A request clears ST TXM and SND WD.
 pub fn request(t: Transmitter) -> Transmitter
@@ -33,14 +32,4 @@ pub fn fail(t: Transmitter, faults: Faults) -> Transmitter
     let mut next = t;
     next.faults = faults;
     settle(request(next))
-}
-
-pub fn level(t: Transmitter) -> bool
-    ensures { λ r. ⌜ r ≡ levelOf t ⌝ }
-{
-    let standing = has_error(t)
-        | t.outcome.success
-        | t.outcome.softwareReject
-        | (t.outcome.busBusy & !t.modes.retryIfBusy);
-    t.modes.interruptEnable & standing
 }

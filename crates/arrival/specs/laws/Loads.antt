@@ -23,7 +23,7 @@ use Rattle.laws.specs.Pick.{by}
 use Rattle.moves.specs.Moving.{transmitterMoved}
 use Rattle.pcl.specs.Sides.{sentBy}
 use Rattle.promise.specs.World.{World, move, movedBy, step}
-use Rattle.promise.specs.laws.MoveCalls.{sender-call}
+use Rattle.outcomes.specs.laws.MoveCalls.{sender-call}
 use Rattle.readings.specs.Messages.{lent, messageOf}
 use Rattle.readings.specs.laws.BuildLaws.{build-made}
 use Rattle.readings.specs.laws.InverseLaws.{message-long}

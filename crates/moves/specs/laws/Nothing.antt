@@ -30,7 +30,7 @@ loaded : (t : Transmitter) (memory : List ℕ) (p : Place) → hasMoved (T.moved
 loaded t memory (Place.Inside at) = refl
 loaded t memory (Place.Outside address) = refl
 
-transmitter-may-not : (t : Transmitter) (memory : List ℕ) (fitted : ℕ) → hasMoved (T.moved t memory fitted .answer) ≡ false → not (T.mayMove t) ≡ true
+pub transmitter-may-not : (t : Transmitter) (memory : List ℕ) (fitted : ℕ) → hasMoved (T.moved t memory fitted .answer) ≡ false → not (T.mayMove t) ≡ true
 transmitter-may-not t memory fitted =
     either (λ (m : TM.Moved). hasMoved (m .answer) ≡ false → not (T.mayMove t) ≡ true) (not (T.mayMove t)) (λ e h. e)
     (λ e h. absurd (true≢false (sym (loaded t memory (placeOf (t .end .load .address .0) fitted)) ∙ h)))
@@ -39,7 +39,7 @@ stored : (r : Receiver) (memory : List ℕ) (p : Place) → hasMoved (R.movedTo 
 stored r memory (Place.Inside at) = refl
 stored r memory (Place.Outside address) = refl
 
-receiver-may-not : (r : Receiver) (memory : List ℕ) (fitted : ℕ) → hasMoved (R.moved r memory fitted .0 .answer) ≡ false → not (R.mayMove r) ≡ true
+pub receiver-may-not : (r : Receiver) (memory : List ℕ) (fitted : ℕ) → hasMoved (R.moved r memory fitted .0 .answer) ≡ false → not (R.mayMove r) ≡ true
 receiver-may-not r memory fitted =
     let P : RM.Moved × List ℕ → Type 0 = λ p. hasMoved (p .0 .answer) ≡ false → not (R.mayMove r) ≡ true in
     either P (not (R.mayMove r)) (λ e h. e)

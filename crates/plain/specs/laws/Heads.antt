@@ -51,7 +51,7 @@ splice-next xs at ys zs b e fits =
     rw (take-at (take at xs ++ ys) (drop (at + length ys) xs) b p, q) (ap (λ (l : List ℕ). l ++ drop (at + length (ys ++ zs)) xs) (append-assoc (take at xs) ys zs))
 
 -- a window put back changes nothing
-put-back : (xs : List ℕ) (b n : ℕ) → b + n ≤ length xs → splice xs b (window xs b n) ≡ xs
+pub put-back : (xs : List ℕ) (b n : ℕ) → b + n ≤ length xs → splice xs b (window xs b n) ≡ xs
 put-back xs b n fits = rw (length-window xs b n fits, ← take-add b n xs) (take-append-drop (b + n) xs)
 
 -- one cell set is its window put back with that cell set

@@ -4,9 +4,9 @@
 use mathlib.Core.Bool.{Bool, true, false, not, _&&_, _||_}
 use mathlib.Core.Path.{_≡_, refl, ap, sym, _∙_}
 use mathlib.Core.List.{List, _++_}
-use Prim.Native.Nat.{ℕ, _+_, _/_, _%_, _^_, _≤_, _<_}
+use Prim.Native.Nat.{ℕ, _+_, _^_, _≤_, _<_}
 use native.Mathlib.Omega.{arith}
-use borrow.Author.Tests.{ltb-true, leb-true, eqb-true, eq-eqb, ne-eqb}
+use borrow.Author.Tests.{ltb-true, leb-true, eqb-true, eq-eqb, ne-eqb, not-true}
 use lib.Dec.{eqb, leb, ltb}
 use lib.ListN.{length, getD, set}
 use Rattle.codec.specs.Receivers.{encReceiver, decReceiver, receiverAt}
@@ -21,7 +21,7 @@ use Rattle.receiver.specs.declared.moves.Moved as RM
 use Rattle.transmitter.specs.Moves as T
 use Rattle.transmitter.specs.declared.moves.Moved as TM
 use Rattle.words.specs.declared.answers.Move.{Move}
-use Rattle.plain_moves.specs.Moving.{Plain, roomBy, wordAt, headMoved}
+use Rattle.plain_moves.specs.Moving.{Plain, PlainOut, PlainIn, roomBy, wordAt, headMoved}
 use Rattle.plain.specs.laws.Heads.{headAt, head-and-silo}
 use Rattle.plain_moves.specs.laws.MayMove.{may-out, may-in}
 use Rattle.plain_moves.specs.laws.Moved.{oneMore, oneFewer, parts-put, parts-taken, transmitter-moved, receiver-moved}
@@ -97,21 +97,20 @@ module _ (ring block own low count control status crc serial : ℕ) (silo : List
 
   module _ (control16 : control < 2 ^ 16) (status16 : status < 2 ^ 16) (crc16 : crc < 2 ^ 16) (serial16 : serial < 2 ^ 16) (cells64 : length silo ≡ 64) (memory : List ℕ) (fitted : ℕ)
       (there : wordAt low control < fitted) where
-    pub out-moved : Plain block own 32 low count control (bitAt control 13 || bitAt status 6) → (status / 2 ^ 8 % 2 ≡ 1 → ⊥) → status < 2 ^ 15
+    pub out-moved : Plain block own 32 low count control (bitAt control 13 || bitAt status 6) → bitAt status 8 ≡ false → status < 2 ^ 15
         → T.mayMove (decTransmitter before) ≡ true
         → _≡_ {A = Move × List ℕ} (answered before (T.moved (decTransmitter before) memory fitted))
         (Move.Done, oneMore ring block own low count control status crc serial silo (getD memory (wordAt low control) 0))
     out-moved p going settled may =
         let room = out-says may .1 in
         let word = getD memory (wordAt low control) 0 in
-        let e : bitAt status 8 ≡ false = ne-eqb (bits status 8 1) 1 going in
         let a : bitAt status 15 ≡ false = ne-eqb (bits status 15 1) 1 (omega arith) in
         ap (answered before) (transmitter-moved ring block own low count control status crc serial silo cells64 (omega (arith, p .low15)) (omega (arith, p .count15)) (p .loaded) (p .goes) memory fitted there may (out-says may .0) room)
         ∙ ap (λ (l : List ℕ). (Move.Done, l))
         (transmitter-kept (withOne ring) block own (low + 1) (count + 1) control status crc serial (set silo (behind ring) word)
         (record { since = p .since; low15 = omega arith; count15 = omega arith; control16 = control16; status16 = status16; crc16 = crc16; serial16 = serial16 })
         before (parts-put ring block own low count control status crc serial silo cells64 room word)
-        (p .single) (p .marked) (rw e) (rw a))
+        (p .single) (p .marked) (rw going) (rw a))
 
     pub in-moved : Plain block own 1 low count control (bitAt status 4) → ring < 4160 → R.mayMove (decReceiver before) ≡ true
         → R.moved (decReceiver before) memory fitted ≡ (R.doneWith (decReceiver (oneFewer ring block own low count control status crc serial silo)), set memory (wordAt low control) (getD silo (front ring) 0))
@@ -148,6 +147,20 @@ module _ (cells : List ℕ) (at : ℕ) (fits : at + 73 ≤ length cells) where
   cells64 : length silo ≡ 64
   cells64 = length-window cells (at + 9) 64 (omega arith)
 
+  -- what the tests of a head say, each side's own beside those of both
+  pub out-head : (head : Bool)
+      → (head ≡ true → Plain (cell cells (at + 1)) (cell cells (at + 2)) 32 low (cell cells (at + 4)) control (bitAt control 13 || bitAt status 6))
+      → head && not (bitAt status 8) && ltb status 32768 ≡ true → PlainOut cells at
+  out-head head says ok =
+      let a = not (bitAt status 8) in
+      let b = ltb status 32768 in
+      let first = left-of (head && a) b ok in
+      record { head = says (left-of head a first); going = not-true (bitAt status 8) (right-of head a first); settled = omega (arith, ltb-true status 32768 (right-of (head && a) b ok)) }
+
+  pub in-head : (head : Bool) → (head ≡ true → Plain (cell cells (at + 1)) (cell cells (at + 2)) 1 low (cell cells (at + 4)) control (bitAt status 4))
+      → head && ltb ring 4160 ≡ true → PlainIn cells at
+  in-head head says ok = record { head = says (left-of head (ltb ring 4160) ok); few = ltb-true ring 4160 (right-of head (ltb ring 4160) ok) }
+
   -- a transmitter that may move has room
   pub out-room : T.mayMove (transmitterAt cells at) ≡ true → ring < 4096
   out-room may =
@@ -161,30 +174,28 @@ module _ (cells : List ℕ) (at : ℕ) (fits : at + 73 ≤ length cells) where
       (ap (λ (w : List ℕ). R.mayMove (decReceiver w)) (sym (head-and-silo cells at fits)) ∙ may)
 
   module _ (words : (i : ℕ) → cell cells i < 2 ^ 16) (memory : List ℕ) (fitted : ℕ) (there : wordAt low control < fitted) where
-    pub out-plain : Plain (cell cells (at + 1)) (cell cells (at + 2)) 32 low (cell cells (at + 4)) control (bitAt control 13 || bitAt status 6)
-        → (status / 2 ^ 8 % 2 ≡ 1 → ⊥) → status < 2 ^ 15 → T.mayMove (transmitterAt cells at) ≡ true
+    pub out-plain : PlainOut cells at → T.mayMove (transmitterAt cells at) ≡ true
         → _≡_ {A = Move × List ℕ} (answered (window cells at 73) (T.moved (transmitterAt cells at) memory fitted))
         (Move.Done, headMoved cells at (withOne ring) ++ set silo (behind ring) (getD memory (wordAt low control) 0))
-    out-plain p going settled may =
+    out-plain p may =
         let same = head-and-silo cells at fits in
         ap (λ (w : List ℕ). answered w (T.moved (decTransmitter w) memory fitted)) same
         ∙ out-moved ring (cell cells (at + 1)) (cell cells (at + 2)) low (cell cells (at + 4)) control status (cell cells (at + 7)) (cell cells (at + 8)) silo
-        (words (at + 5)) (words (at + 6)) (words (at + 7)) (words (at + 8)) cells64 memory fitted there p going settled
+        (words (at + 5)) (words (at + 6)) (words (at + 7)) (words (at + 8)) cells64 memory fitted there (p .head) (p .going) (p .settled)
         (ap (λ (w : List ℕ). T.mayMove (decTransmitter w)) (sym same) ∙ may)
 
-    pub in-plain : Plain (cell cells (at + 1)) (cell cells (at + 2)) 1 low (cell cells (at + 4)) control (bitAt status 4)
-        → ring < 4160 → R.mayMove (receiverAt cells at) ≡ true
+    pub in-plain : PlainIn cells at → R.mayMove (receiverAt cells at) ≡ true
         → _≡_ {A = Move × List ℕ × List ℕ} (answeredThere (window cells at 73) (R.moved (receiverAt cells at) memory fitted))
         (Move.Done, headMoved cells at (withoutOldest ring) ++ silo, set memory (wordAt low control) (cell cells (at + 9 + front ring)))
-    in-plain p few may =
+    in-plain p may =
         let same = head-and-silo cells at fits in
         let first : getD silo (front ring) 0 ≡ cell cells (at + 9 + front ring) = cell-window cells (at + 9) 64 (front ring) (omega arith) in
         let moved =
         in-moved ring (cell cells (at + 1)) (cell cells (at + 2)) low (cell cells (at + 4)) control status (cell cells (at + 7)) (cell cells (at + 8)) silo
-        (words (at + 5)) (words (at + 6)) (words (at + 7)) (words (at + 8)) cells64 memory fitted there p few (ap (λ (w : List ℕ). R.mayMove (decReceiver w)) (sym same) ∙ may) in
+        (words (at + 5)) (words (at + 6)) (words (at + 7)) (words (at + 8)) cells64 memory fitted there (p .head) (p .few) (ap (λ (w : List ℕ). R.mayMove (decReceiver w)) (sym same) ∙ may) in
         let kept =
         in-kept ring (cell cells (at + 1)) (cell cells (at + 2)) low (cell cells (at + 4)) control status (cell cells (at + 7)) (cell cells (at + 8)) silo
-        (words (at + 5)) (words (at + 6)) (words (at + 7)) (words (at + 8)) cells64 memory fitted there p (in-some may) few in
+        (words (at + 5)) (words (at + 6)) (words (at + 7)) (words (at + 8)) cells64 memory fitted there (p .head) (in-some may) (p .few) in
         ap (λ (w : List ℕ). answeredThere w (R.moved (decReceiver w) memory fitted)) same
         ∙ ap (answeredThere (headAt cells at ++ silo)) moved
         ∙ ap (λ (l : List ℕ × List ℕ). (Move.Done, l .0, l .1)) (same-pair kept (ap (set memory (wordAt low control)) first))

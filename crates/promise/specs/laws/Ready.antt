@@ -28,7 +28,7 @@ use Rattle.promise.specs.Conditions.{Allowed}
 use Rattle.promise.specs.laws.Events.{follows}
 use Rattle.promise.specs.laws.SliceCalls.{slice-kind}
 use Rattle.promise.specs.laws.Follows.{length-same, receiver-fitted, sender-fitted}
-use Rattle.promise.specs.laws.MoveCalls.{length-called, receiver-call, sender-call}
+use Rattle.outcomes.specs.laws.MoveCalls.{length-called, receiver-call, sender-call}
 use Rattle.promise.specs.Opening.{Parties, endsOf, messageIn}
 use Rattle.promise.specs.laws.Opens.{Opens}
 use Rattle.promise.specs.laws.Standing.{Standing, ringOf}

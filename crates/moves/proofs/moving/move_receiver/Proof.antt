@@ -35,12 +35,12 @@ move-in-requires c κs =
 
 returns-3 : tie.Need-returns-3
 returns-3 c =
-    let tested = c .before .before .before .before .before .before .before .before .before .before .before .before .before .before .before in
-    let kept = rw (c .before .before .before .before .before .before .before .if2 .left) at (c .before .before .before .before .before .before .before .before .before .before .before .before .store-plain .ensures) in
+    let tested = c .before .before .before .before .before .before .before .before .before .before .before .before .before .before .before .before in
+    let kept = rw (c .before .before .before .before .before .before .before .before .if2 .left) at (c .before .before .before .before .before .before .before .before .before .before .before .before .before .store-plain .ensures) in
     let unit = tested .before .before .before .before .before .args .unit in
     past _ (rw (tested .before .may-move-in .ensures) at (tested .if1 .left))
-    (c .before .before .before .before .move-in .ensures
+    (rw (c .taken-apart .ensures) (c .before .before .before .before .before .move-in .ensures)
     ∙ ap (λ (l : Move × List ℕ × List ℕ). receiverMovedBy (l .1) unit (R.moved (receiverOf (l .1) unit) (l .2) (memoryLength (l .1) unit))) kept)
 
 pub move-receiver-spec : {M : Type 1} → statement M
-move-receiver-spec = tie.close (tie.spec (λ c. search needs) (λ c. search needs) returns store-plain-requires (λ c. search needs) (λ c. search needs) returns-2 move-in-requires (λ c. search needs) (λ c. search needs) returns-3)
+move-receiver-spec = tie.close (tie.spec (λ c. search needs) (λ c. search needs) returns store-plain-requires (λ c. search needs) (λ c. search needs) returns-2 move-in-requires (λ c. search needs) (λ c. search needs) (λ c. search needs) returns-3)

@@ -30,9 +30,9 @@ move-out-requires c κs =
 
 returns-3 : tie.Need-returns-3
 returns-3 c =
-    let tested = c .before .before .before .before .before .before .before .before .before in
-    let kept = ap (λ (l : Move × List ℕ). l .1) (rw (c .before .before .before .before .if2 .left) at (c .before .before .before .before .before .before .before .load-plain .ensures)) in
-    past _ (rw (tested .before .may-move-out .ensures) at (tested .if1 .left)) (rw kept at (c .before .before .move-out .ensures))
+    let tested = c .before .before .before .before .before .before .before .before .before .before in
+    let kept = ap (λ (l : Move × List ℕ). l .1) (rw (c .before .before .before .before .before .if2 .left) at (c .before .before .before .before .before .before .before .before .load-plain .ensures)) in
+    past _ (rw (tested .before .may-move-out .ensures) at (tested .if1 .left)) (rw (c .taken-apart .ensures) (rw kept at (c .before .before .before .move-out .ensures)))
 
 pub move-transmitter-spec : {M : Type 1} → statement M
-move-transmitter-spec = tie.close (tie.spec (λ c. search needs) (λ c. search needs) returns load-plain-requires (λ c. search needs) returns-2 move-out-requires (λ c. search needs) returns-3)
+move-transmitter-spec = tie.close (tie.spec (λ c. search needs) (λ c. search needs) returns load-plain-requires (λ c. search needs) returns-2 move-out-requires (λ c. search needs) (λ c. search needs) returns-3)

@@ -15,24 +15,23 @@ use Rattle.plain_moves.proofs.moving.load_plain.Tie as tie
 put-word-requires : tie.Need-put-word-requires
 put-word-requires c κs =
     let tested = c .before .before .before .before .before .before .before .before in
-    let start = tested .before .before .before .before .before .before .before .before .before .before in
+    let start = tested .before .before .before .before .before in
     let a = start .args in
-    let p = tested .before .is-plain .ensures (not-false _ (tested .if1 .left)) in
-    (omega arith, p .low15, p .count15, out-room (a .cells .now) (transmitterPlace (a .unit)) (omega arith) (start .pre .2))
+    let p = tested .before .is-plain-out .ensures (not-false _ (tested .if1 .left)) in
+    (omega arith, p .head .low15, p .head .count15, out-room (a .cells .now) (transmitterPlace (a .unit)) (omega arith) (start .pre .2))
 
-returns-4 : tie.Need-returns-4
-returns-4 c =
+returns-2 : tie.Need-returns-2
+returns-2 c =
     let found = c .before .before .before .before .before in
     let named = found .before .before .before .place in
     let tested = found .before .before .before .before .before .before in
-    let start = tested .before .before .before .before .before .before .before .before .before .before in
+    let start = tested .before .before .before .before .before in
     let a = start .args in
-    let p = tested .before .is-plain .ensures (not-false _ (tested .if1 .left)) in
-    let there = rw (named .ensures, found .before .memory-length .ensures) at (found .if4 .taken) in
+    let p = tested .before .is-plain-out .ensures (not-false _ (tested .if1 .left)) in
+    let there = rw (named .ensures, found .before .memory-length .ensures) at (found .if2 .taken) in
     rw (c .before .before .put-word .ensures, named .ensures)
     (ap (λ (p : Move × List ℕ). (p .0, splice (a .cells .now) (transmitterPlace (a .unit)) (p .1)))
-    (sym (out-plain (a .cells .now) (transmitterPlace (a .unit)) (omega arith) (λ i. omega (arith, tested .before .before .before .before .before .before .before .before .before .slice-known .given i)) (a .memory .now) (memoryLength (a .cells .now) (a .unit)) (omega (arith, there)) p
-    (found .before .before .before .before .before .if2 .left) (omega (arith, found .before .before .before .before .if3 .left)) (start .pre .2))))
+    (sym (out-plain (a .cells .now) (transmitterPlace (a .unit)) (omega arith) (λ i. omega (arith, tested .before .before .before .before .slice-known .given i)) (a .memory .now) (memoryLength (a .cells .now) (a .unit)) (omega (arith, there)) p (start .pre .2))))
 
 pub load-plain-spec : {M : Type 1} → statement M
-load-plain-spec = tie.close (tie.spec (λ c. search needs) (λ c. search needs) (λ c. search needs) (λ c. search needs) (λ c. search needs) (λ c. search needs) (λ c. search needs) (λ c. search needs) (λ c. search needs) (λ c. search needs) (λ c. search needs) (λ c. search needs) (λ c. search needs) (λ c. search needs) (λ c. search needs) (λ c. search needs) (λ c. search needs) (λ c. search needs) (λ c. search needs) (λ c. search needs) (λ c. search needs) (λ c. search needs) (λ c. search needs) (λ c. search needs) (λ c. search needs) (λ c. search needs) (λ c. search needs) (λ c. search needs) (λ c. search needs) put-word-requires (λ c. search needs) returns-4 (λ c. search needs) (λ c. search needs))
+load-plain-spec = tie.close (tie.spec (λ c. search needs) (λ c. search needs) (λ c. search needs) (λ c. search needs) (λ c. search needs) (λ c. search needs) (λ c. search needs) (λ c. search needs) (λ c. search needs) (λ c. search needs) (λ c. search needs) (λ c. search needs) (λ c. search needs) (λ c. search needs) (λ c. search needs) (λ c. search needs) put-word-requires (λ c. search needs) returns-2 (λ c. search needs) (λ c. search needs))

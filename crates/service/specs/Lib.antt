@@ -1,0 +1,3 @@
+pub mod Transfers
+pub mod Wants
+pub mod laws

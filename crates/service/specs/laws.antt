@@ -1,0 +1,10 @@
+pub mod Ended
+pub mod Falling
+pub mod Heads
+pub mod Kept
+pub mod Levels
+pub mod Rows
+pub mod RunsIn
+pub mod RunsOut
+pub mod Splices
+pub mod Turns
