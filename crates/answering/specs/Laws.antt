@@ -1,5 +1,3 @@
 pub mod Hears
-pub mod Keeps
 pub mod Listening
-pub mod Openings
 pub mod Parts

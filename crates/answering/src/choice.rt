@@ -5,7 +5,7 @@ ghost use Rattle.answering.specs.Choice.{open_with_another, reopening, decided_c
 use receiver::side::{Receiver, has_error, is_data_in_ready, is_data_out_ready};
 use words::lines::Sent;
 
-#[derive(Drop)]
+#[derive(Clone, Copy)]
 pub enum Rule {
     // 1. Open with another.
     Other,

@@ -12,7 +12,7 @@ use receiver::side::Receiver;
 use words::lines::{Answer, Sent, give};
 
 // The receiver after the slice, and its answer.
-#[derive(Drop)]
+#[derive(Clone, Copy)]
 pub struct Answered {
     pub side: Receiver,
     pub answer: Answer,

@@ -7,7 +7,7 @@ use Rattle.board.specs.Outcomes.{ReceiveOutcome}
 use Rattle.board.specs.Receive.{receive_call, received_as}
 use Rattle.board.specs.declared.answers.ReceiveCall.{ReceiveCall}
 use Rattle.board.specs.declared.receiving.Stood.{Stood}
-use Rattle.board.specs.Laws.ReceivedLaws.{Outcome, by_standing, standing_leaves}
+use Rattle.board.proofs.Laws.ReceivedLaws.{Outcome, by_standing, standing_leaves}
 
 received_leaves : (kind : ℕ) (memory : List ℕ) (first : ℕ) (room : List ℕ) (p : Stood × List ℕ) → (received_as kind memory first room p).1 ≡ p.1
 received_leaves kind memory first room (Stood.Link refusal, left) = refl

@@ -1,4 +1,3 @@
 pub mod CollectLaws
 pub mod Packed
 pub mod ReceiveLaws
-pub mod ReceivedLaws

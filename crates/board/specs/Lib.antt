@@ -3,5 +3,4 @@ pub mod Outcomes
 pub mod Numbers
 pub mod One
 pub mod Receive
-pub mod Received
 pub mod Laws

@@ -21,13 +21,13 @@ use slices::{exchange, send_alone};
 use words::codes::Codes;
 
 // The address that the master gave, and the codes A and B.
-#[derive(Drop)]
+#[derive(Clone, Copy)]
 pub struct Given {
     pub address: u16,
     pub codes: Codes,
 }
 
-#[derive(Drop)]
+#[derive(Clone, Copy)]
 pub enum Slot {
     NoMaster,
     Given(Given),

@@ -2,7 +2,6 @@ pub mod FitLaws
 pub mod FittedLaws
 pub mod FrameLaws
 pub mod HolderLaws
-pub mod IndexLaws
 pub mod PutLaws
 pub mod RangeLaws
 pub mod RoomLaws

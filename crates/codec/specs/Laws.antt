@@ -1,7 +1,1 @@
-pub mod EndLaws
-pub mod MasterLaws
-pub mod ReceiverLaws
-pub mod RingLaws
-pub mod SiloLaws
-pub mod TransmitterLaws
 pub mod WindowLaws

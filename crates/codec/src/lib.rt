@@ -1,4 +1,6 @@
 // How each side lies in its lent cells: windows of a slice, and each side as the cells of a window and back.
+#![tactic(auto)]
+
 pub mod end_cells;
 pub mod masters;
 pub mod readings;

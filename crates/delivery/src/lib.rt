@@ -1,1 +1,2 @@
 // No code: specs/ proves what a transmitter and a receiver make of a whole message.
+#![tactic(auto)]

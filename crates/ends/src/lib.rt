@@ -1,4 +1,6 @@
 // What a transmitter and a receiver both have: the two ends of a channel.
+#![tactic(auto)]
+
 ghost use Rattle.std.specs.Prelude.{◌≡◌};
 ghost use Rattle.ends.specs.Ends.{no_end, raised};
 
@@ -8,7 +10,7 @@ use words::load::Load;
 
 // The data silo, the load, the codes shown, whether the channel is open, the words since the last CRC and their CRC, the period's mark,
 // and the serial of the last opening.
-#[derive(Drop)]
+#[derive(Clone, Copy)]
 pub struct End {
     pub silo: Silo,
     pub load: Load,

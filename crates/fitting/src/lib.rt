@@ -1,3 +1,5 @@
 // A fit: the rules of a set-up, and the cells that it leaves.
+#![tactic(auto)]
+
 pub mod fit;
 pub mod setup;

@@ -1,1 +1,2 @@
 // No code: specs/ has what the definitions and proofs of every crate share.
+#![tactic(auto)]

@@ -1,7 +1,6 @@
 pub mod Answers
 pub mod Example
 pub mod Layouts
-pub mod Promise
 pub mod Runs
 pub mod Same
 pub mod Shifting

@@ -5,7 +5,7 @@ use Rattle.std.specs.Prelude.{List, ◌≡◌, ℕ, ◌+◌, ◌-◌, ◌*◌, �
 use Rattle.cells.specs.Fitted.{transmitter_of, receiver_of, master_of}
 use Rattle.cells.specs.Layout.{count_in, holder_in}
 use Rattle.codec.specs.Rings.{around, silo_of}
-use Rattle.codec.specs.Laws.SiloLaws.{silo_cells}
+use Rattle.codec.proofs.Laws.SiloLaws.{silo_cells}
 use Rattle.promise.specs.World.{World, Event, read, step, run}
 use Rattle.silos.specs.Silo.{Sized, put, taken, oldest}
 use Rattle.silos.specs.declared.Silo.{Silo}

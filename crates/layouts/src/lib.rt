@@ -1,1 +1,2 @@
 // No code: how words lie in the cells makes no difference to any call.
+#![tactic(auto)]

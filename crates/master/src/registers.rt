@@ -13,7 +13,7 @@ use words::answers::Write;
 use words::bits::{bit_at, set_at, tmmr};
 
 // What a write of TMMR is answered, and what it leaves.
-#[derive(Drop)]
+#[derive(Clone, Copy)]
 pub struct Written {
     pub answer: Write,
     pub mastership: Mastership,
@@ -21,14 +21,14 @@ pub struct Written {
 }
 
 // What a read of TMMR shows, and what it leaves.
-#[derive(Drop)]
+#[derive(Clone, Copy)]
 pub struct Reading {
     pub word: u16,
     pub side: Master,
 }
 
 // What a write of the high byte leaves, and whether the address silo may not start.
-#[derive(Drop)]
+#[derive(Clone, Copy)]
 struct High {
     refused: bool,
     mastership: Mastership,
@@ -36,7 +36,7 @@ struct High {
 }
 
 // What a write of the low byte leaves, and whether the address is dropped.
-#[derive(Drop)]
+#[derive(Clone, Copy)]
 struct Low {
     dropped: bool,
     side: Master,

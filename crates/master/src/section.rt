@@ -6,7 +6,7 @@ use crate::side::{Master, Mastership};
 use silos::{ADDRESSES, Silo};
 
 // The address of a slice, and the master after it.
-#[derive(Drop)]
+#[derive(Clone, Copy)]
 pub struct Next {
     pub address: u16,
     pub side: Master,

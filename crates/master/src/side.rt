@@ -5,7 +5,7 @@ ghost use Rattle.master.specs.Side.{initial, initialised};
 use silos::Silo;
 
 // The address silo, which is used to 50; AUT ADR, SEC and NOW MST; the address that the counter gives next, and the counter switch.
-#[derive(Drop)]
+#[derive(Clone, Copy)]
 pub struct Master {
     pub addresses: Silo,
     pub auto_address: bool,
@@ -16,7 +16,7 @@ pub struct Master {
 }
 
 // Who has MASTER, seen from this unit. MASTER itself is held outside: at most one unit has it.
-#[derive(Drop)]
+#[derive(Clone, Copy)]
 pub enum Mastership {
     Nobody,
     Own,

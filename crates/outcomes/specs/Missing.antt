@@ -15,10 +15,10 @@ use Rattle.pcl.specs.declared.answers.MoveCall.{MoveCall}
 use Rattle.pcl.specs.Laws.Cases.{admitted_cases}
 use Rattle.receiver.specs.Moves as R
 use Rattle.receiver.specs.declared.side.Receiver.{Receiver}
-use Rattle.receiver.specs.Laws.Missing as RM
+use Rattle.receiver.proofs.Laws.Missing as RM
 use Rattle.transmitter.specs.Moves as T
 use Rattle.transmitter.specs.declared.side.Transmitter.{Transmitter}
-use Rattle.transmitter.specs.Laws.Missing as TM
+use Rattle.transmitter.proofs.Laws.Missing as TM
 use Rattle.words.specs.Answers.{move_value}
 use Rattle.words.specs.Missing.{HandsUp}
 use Rattle.words.specs.declared.answers.Move.{Move}

@@ -4,7 +4,7 @@ use service::transfers::Transfer;
 use words::answers::{Move, Read, Write};
 
 // A read: the lent state is out of range, the unit is not fitted, or what the register gives.
-#[derive(Drop)]
+#[derive(Clone, Copy)]
 pub enum ReadCall {
     BadState,
     NoUnit,
@@ -12,7 +12,7 @@ pub enum ReadCall {
 }
 
 // A write of a word or a byte.
-#[derive(Drop)]
+#[derive(Clone, Copy)]
 pub enum WriteCall {
     BadState,
     NoUnit,
@@ -20,7 +20,7 @@ pub enum WriteCall {
 }
 
 // A fit: the room lent is too small, the set-up breaks a rule, or it is done.
-#[derive(Drop)]
+#[derive(Clone, Copy)]
 pub enum FitCall {
     NoRoom,
     BadSetUp,
@@ -28,7 +28,7 @@ pub enum FitCall {
 }
 
 // A slice: the lent state is out of range, the parity mask is above 1, or what the slice gives.
-#[derive(Drop)]
+#[derive(Clone, Copy)]
 pub enum SliceCall {
     BadState,
     BadMask,
@@ -36,7 +36,7 @@ pub enum SliceCall {
 }
 
 // A memory move: the lent state is out of range or the lent memory too short, there is no such unit or side, or what the side does.
-#[derive(Drop)]
+#[derive(Clone, Copy)]
 pub enum MoveCall {
     BadState,
     NoUnit,
@@ -44,7 +44,7 @@ pub enum MoveCall {
 }
 
 // An interrupt level.
-#[derive(Drop)]
+#[derive(Clone, Copy)]
 pub enum LevelCall {
     BadState,
     NoUnit,
@@ -52,7 +52,7 @@ pub enum LevelCall {
 }
 
 // The serial of a side.
-#[derive(Drop)]
+#[derive(Clone, Copy)]
 pub enum SerialCall {
     BadState,
     NoUnit,
@@ -60,7 +60,7 @@ pub enum SerialCall {
 }
 
 // A call at a unit that has no more to say.
-#[derive(Drop)]
+#[derive(Clone, Copy)]
 pub enum UnitCall {
     BadState,
     NoUnit,
@@ -68,14 +68,14 @@ pub enum UnitCall {
 }
 
 // Which sides want service: the lent state is out of range, or a bit for each side.
-#[derive(Drop)]
+#[derive(Clone, Copy)]
 pub enum WantsCall {
     BadState,
     Sides(u32),
 }
 
 // A whole transfer: as a memory move, and what the side does.
-#[derive(Drop)]
+#[derive(Clone, Copy)]
 pub enum TransferCall {
     BadState,
     NoUnit,

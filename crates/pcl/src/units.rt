@@ -6,7 +6,7 @@ use cells::ranges::in_range;
 use cells::units::count;
 
 // The lent state is out of range, the unit is not fitted, or the call goes on.
-#[derive(Drop)]
+#[derive(Clone, Copy)]
 pub enum Admission {
     BadState,
     NoUnit,

@@ -1,4 +1,6 @@
 // A call of a script: performed, and the line that it prints.
+#![tactic(auto)]
+
 ghost use Rattle.std.specs.Prelude.{List, ◌≡◌, ℕ, ◌^◌, ◌≤◌, ◌<◌, length, drop, replicate};
 ghost use Rattle.pcl.specs.Face.{fit_face};
 ghost use Rattle.script.specs.SetUps.{set_up_of};

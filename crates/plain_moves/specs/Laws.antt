@@ -1,4 +1,2 @@
-pub mod MayMove
 pub mod Moved
-pub mod PlainMoves
 pub mod Sides

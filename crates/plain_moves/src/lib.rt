@@ -1,3 +1,5 @@
 // The plain moves in place: on the lent cells, with no side made a record. Which are plain, nothing rests on: whatever these functions do
 // not take goes by the records.
+#![tactic(auto)]
+
 pub mod moving;

@@ -7,7 +7,7 @@ use Rattle.std.specs.Int.Count.{ones}
 use Rattle.cells.specs.Fitted.{unit_fitted}
 use Rattle.codec.specs.Rings.{in_order, laid_from}
 use Rattle.cells.specs.Index.{row}
-use Rattle.promise.specs.Laws.Rows.{rows_say}
+use Rattle.promise.proofs.Laws.Rows.{rows_say}
 use Rattle.cells.specs.Ranges.{in_range}
 use Rattle.cells.specs.Search.{first_found}
 use Rattle.fitting.specs.Fit.{units_fitted}

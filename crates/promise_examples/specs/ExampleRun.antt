@@ -11,7 +11,7 @@ use Rattle.pcl.specs.Numbers.{level_value, read_call_word}
 use Rattle.pcl.specs.Sides.{level_call}
 use Rattle.words.specs.Crc.{crc_bits, crc_word}
 use Rattle.promise.specs.Conditions.{OwnSlice}
-use Rattle.promise.specs.Demand3.{demand_3}
+use Rattle.promise.proofs.Demand3.{demand_3}
 use Rattle.promise_examples.specs.Example.{opening, start}
 use Rattle.promise.specs.Kinds.{Kind, own, other, owns}
 use Rattle.promise.specs.Statement.{Meets, Succeeded, after, parties}

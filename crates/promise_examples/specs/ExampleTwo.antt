@@ -8,7 +8,7 @@ use Rattle.std.specs.Int.Count.{ones}
 use Rattle.cells.specs.Fitted.{unit_fitted}
 use Rattle.codec.specs.Rings.{in_order, laid_from}
 use Rattle.cells.specs.Index.{row}
-use Rattle.promise.specs.Laws.Rows.{rows_say}
+use Rattle.promise.proofs.Laws.Rows.{rows_say}
 use Rattle.cells.specs.Layout.{receiver_address, transmitter_address, unit_place}
 use Rattle.cells.specs.Ranges.{in_range}
 use Rattle.cells.specs.Search.{first_found}
@@ -17,7 +17,7 @@ use Rattle.fitting.specs.Fit.{units_fitted}
 use Rattle.fitting.specs.SetUp.{taken_by, units_good}
 use Rattle.laws.specs.Pick.{pick}
 use Rattle.words.specs.Crc.{crc_bits, crc_word}
-use Rattle.promise.specs.Demand3.{arrives}
+use Rattle.promise.proofs.Demand3.{arrives}
 use Rattle.promise.specs.Opening.{Opening}
 use Rattle.promise.specs.Statement.{Meets, Succeeded, after, parties, round, words_sent}
 use Rattle.promise.specs.World.{World, Event, fit, write, write_byte, slice, move, run, with_cells}

@@ -10,7 +10,7 @@ use words::address::Place;
 use words::answers::Move;
 use words::load::Advance;
 
-#[derive(Drop)]
+#[derive(Clone, Copy)]
 pub struct Moved {
     pub side: Receiver,
     pub answer: Move,

@@ -6,14 +6,14 @@ use ends::End;
 use silos::WORDS;
 
 // RCR: the two commands that a request clears, and closing.
-#[derive(Drop)]
+#[derive(Clone, Copy)]
 pub struct Commands {
     pub receive_data: bool,
     pub receive_word: bool,
 }
 
 // RCR: the rest, but for EA17 and EA16, which are part of the load's address. The sender is the last opening's, and read-only.
-#[derive(Drop)]
+#[derive(Clone, Copy)]
 pub struct Modes {
     pub inhibit_increment: bool,
     pub interrupt_enable: bool,
@@ -24,7 +24,7 @@ pub struct Modes {
 }
 
 // RSR: the error bits.
-#[derive(Drop)]
+#[derive(Clone, Copy)]
 pub struct Faults {
     pub byte_count_overflow: bool,
     pub time_out: bool,
@@ -35,7 +35,7 @@ pub struct Faults {
 }
 
 // RSR: how a message ended.
-#[derive(Drop)]
+#[derive(Clone, Copy)]
 pub struct Outcome {
     pub reject_complete: bool,
     pub success: bool,
@@ -43,7 +43,7 @@ pub struct Outcome {
 
 // The channel: whether a CRC was taken and its verdict is owed, that verdict is good, the word before had bad parity, the message is
 // truncated.
-#[derive(Drop)]
+#[derive(Clone, Copy)]
 pub struct Channel {
     pub owed: bool,
     pub good: bool,
@@ -51,7 +51,7 @@ pub struct Channel {
     pub truncated: bool,
 }
 
-#[derive(Drop)]
+#[derive(Clone, Copy)]
 pub struct Receiver {
     pub end: End,
     pub commands: Commands,

@@ -1,4 +1,6 @@
 // The host's reads and writes of a receiver's registers.
+#![tactic(auto)]
+
 pub mod registers;
 pub mod shown;
 pub mod writes;

@@ -11,13 +11,13 @@ use words::answers::{Read, Write, word_read};
 use words::bits::{bit_at, rcr};
 use words::halves::{register_offset, with_half};
 
-#[derive(Drop)]
+#[derive(Clone, Copy)]
 pub struct Reading {
     pub side: Receiver,
     pub answer: Read,
 }
 
-#[derive(Drop)]
+#[derive(Clone, Copy)]
 pub struct Written {
     pub side: Receiver,
     pub answer: Write,

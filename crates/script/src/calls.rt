@@ -5,7 +5,7 @@ ghost use Rattle.script.specs.Records.{sized, call_of};
 use crate::bytes::{byte_at, word_at};
 
 // The set-ups of a fit stand in its record behind the count, three bytes for each unit.
-#[derive(Drop)]
+#[derive(Clone, Copy)]
 pub enum Call {
     Fit { count: u8 },
     WordWrite { unit: u8, offset: u8, word: u16 },
@@ -20,7 +20,7 @@ pub enum Call {
 
 // What the bytes of an input begin with: a call, and how many bytes its record has; the end of the input; what has to print `stop`.
 // Or they do not tell, and more of the input is wanted.
-#[derive(Drop)]
+#[derive(Clone, Copy)]
 pub enum Found {
     Call(Call, usize),
     End,

@@ -1,5 +1,7 @@
 // What the script program reads and writes: the records of a script in a window of the input, the set-up that a fit's record
 // holds, and the text of a line.
+#![tactic(auto)]
+
 mod bytes;
 pub mod calls;
 mod digits;

@@ -7,7 +7,7 @@ use crate::digits::{put_byte, put_long_number, put_number};
 
 // A line: what a call was answered, with the values that number 0 brings; or `stop`. A slice's are address, A and B. Of a move, the address
 // that was missing.
-#[derive(Drop)]
+#[derive(Clone, Copy)]
 pub enum Line {
     Call {
         kind: u32,

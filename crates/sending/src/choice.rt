@@ -6,7 +6,7 @@ use ends::raise;
 use transmitter::side::{Transmitter, has_error};
 use words::lines::{Sent, send};
 
-#[derive(Drop)]
+#[derive(Clone, Copy)]
 pub enum Choice {
     // It does not act.
     Idle,

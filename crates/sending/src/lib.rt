@@ -1,4 +1,6 @@
 // A transmitter in a slice: what it sends, and what it makes of the answer.
+#![tactic(auto)]
+
 pub mod chart;
 pub mod choice;
 pub mod events;

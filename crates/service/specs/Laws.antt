@@ -1,5 +1,4 @@
 pub mod Ended
-pub mod Falling
 pub mod Heads
 pub mod Kept
 pub mod Levels

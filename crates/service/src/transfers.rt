@@ -13,7 +13,7 @@ use plain_moves::moving::{may_move_in, may_move_out};
 use words::answers::Move;
 
 // Nothing to move; or so many words were moved, and where a move found no memory at its address, that address.
-#[derive(Drop)]
+#[derive(Clone, Copy)]
 pub enum Transfer {
     Nothing,
     Words(u16),

@@ -1,12 +1,7 @@
-pub mod ArrangeLaws
 pub mod Counting
-pub mod LargestLaws
 pub mod NearLaws
 pub mod Packed
-pub mod PlanLaws
 pub mod RingLaws
 pub mod Rooms
-pub mod SpreadLaws
-pub mod TestLaws
 pub mod Totals
 pub mod Walking

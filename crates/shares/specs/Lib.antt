@@ -1,12 +1,10 @@
 pub mod Arranging
 pub mod Asked
 pub mod Outcomes
-pub mod Example
 pub mod Lists
 pub mod Numbers
 pub mod One
 pub mod Plan
-pub mod Promise
 pub mod Refusals
 pub mod Spreading
 pub mod Tested

@@ -7,7 +7,7 @@ use crate::lists::{count_in, last_of};
 use crate::wanted::{Share, share_at, shares_in};
 
 // The next turn of a transmitter: its number, from 1 on, and whether it has come.
-#[derive(Drop)]
+#[derive(Clone, Copy)]
 pub struct Turn {
     pub address: u16,
     pub turns: u16,

@@ -5,7 +5,7 @@ ghost use Rattle.shares.specs.Refusals.{outside, any_outside, named, any_twice, 
 ghost use Rattle.shares.specs.Wanted.{shares_in, share_at, total};
 
 // A transmitter's address, and how many turns it wants.
-#[derive(Drop)]
+#[derive(Clone, Copy)]
 pub struct Share {
     pub address: u16,
     pub turns: u16,

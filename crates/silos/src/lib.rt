@@ -1,4 +1,6 @@
 // A silo: words in, and out again in their order. Only this crate knows how they lie in the cells.
+#![tactic(auto)]
+
 ghost use Rattle.std.specs.Prelude.{◌≡◌, ◌≤◌, get_or, length};
 ghost use Rattle.silos.specs.Silo.{no_words, words, count, is_empty, has_room, oldest, put, taken};
 ghost use Rattle.silos.specs.Cells.{shifted};
@@ -9,7 +11,7 @@ pub const WORDS: u16 = 64;
 pub const ADDRESSES: u16 = 50;
 
 // The first `held` cells hold the words, the oldest first. Taking moves the others down and leaves the freed cell 0.
-#[derive(Drop)]
+#[derive(Clone, Copy)]
 pub struct Silo {
     pub cells: [u16; 64],
     pub held: u16,

@@ -3,13 +3,13 @@
 use Rattle.std.specs.Prelude.{Bool, true, false, ◌&&◌, ◌≡◌, refl, ℕ, eqb}
 use Rattle.std.proofs.Common.{ap, sym, ◌∙◌}
 use Rattle.answering.specs.Rules.{answered_by}
-use Rattle.answering.specs.Serials as R
-use Rattle.answering.specs.Laws.Openings.{opens_by_word}
+use Rattle.answering.proofs.Serials as R
+use Rattle.answering.proofs.Laws.Openings.{opens_by_word}
 use Rattle.ends.specs.Ends.{raised}
 use Rattle.laws.specs.Pick.{either, pick}
 use Rattle.receiver.specs.declared.side.Receiver.{Receiver}
 use Rattle.sending.specs.Choice.{acts_on, chosen, is_opening, sent_by}
-use Rattle.sending.specs.Serials as T
+use Rattle.sending.proofs.Serials as T
 use Rattle.transmitter.specs.declared.side.Transmitter.{Transmitter}
 use Rattle.words.specs.Lines.{answered, damaged}
 use Rattle.words.specs.Laws.LineLaws.{mark_stays, serial_stays}

@@ -1,4 +1,6 @@
 // One slice between a transmitter and the receiver that it addresses, as a function of the two records: they may be of one unit.
+#![tactic(auto)]
+
 ghost use Rattle.std.specs.Prelude.{◌≡◌, ◌≤◌};
 ghost use Rattle.slices.specs.Slice.{passed, exchanged_as, exchanged, unheard, sent_alone_as, sent_alone};
 
@@ -11,7 +13,7 @@ use words::codes::Codes;
 use words::lines::{Sent, damage, give};
 
 // Both ends after the slice, and its codes.
-#[derive(Drop)]
+#[derive(Clone, Copy)]
 pub struct Pair {
     pub transmitter: Transmitter,
     pub receiver: Receiver,
@@ -19,7 +21,7 @@ pub struct Pair {
 }
 
 // The transmitter after a slice in which no receiver has the address, and its codes.
-#[derive(Drop)]
+#[derive(Clone, Copy)]
 pub struct Alone {
     pub transmitter: Transmitter,
     pub codes: Codes,

@@ -6,14 +6,14 @@ use ends::End;
 use silos::WORDS;
 
 // TCR: the two commands that a request clears.
-#[derive(Drop)]
+#[derive(Clone, Copy)]
 pub struct Commands {
     pub start_transmission: bool,
     pub send_word: bool,
 }
 
 // TCR: the rest, but for EA17 and EA16, which are part of the load's address.
-#[derive(Drop)]
+#[derive(Clone, Copy)]
 pub struct Modes {
     pub inhibit_increment: bool,
     pub interrupt_enable: bool,
@@ -24,7 +24,7 @@ pub struct Modes {
 }
 
 // TSR: the error bits.
-#[derive(Drop)]
+#[derive(Clone, Copy)]
 pub struct Faults {
     pub overrun: bool,
     pub time_out: bool,
@@ -35,7 +35,7 @@ pub struct Faults {
 }
 
 // TSR: how a message ended, or did not begin.
-#[derive(Drop)]
+#[derive(Clone, Copy)]
 pub struct Outcome {
     pub bus_busy: bool,
     pub software_reject: bool,
@@ -43,14 +43,14 @@ pub struct Outcome {
 }
 
 // The channel: whether the last CRC is being sent, a CRC's verdict is awaited, and the destination latched at the opening.
-#[derive(Drop)]
+#[derive(Clone, Copy)]
 pub struct Channel {
     pub ending: bool,
     pub awaiting: bool,
     pub destination: u16,
 }
 
-#[derive(Drop)]
+#[derive(Clone, Copy)]
 pub struct Transmitter {
     pub end: End,
     pub commands: Commands,

@@ -11,13 +11,13 @@ use words::answers::{Read, Write, word_read};
 use words::bits::{bit_at, tcr};
 use words::halves::{register_offset, with_half};
 
-#[derive(Drop)]
+#[derive(Clone, Copy)]
 pub struct Reading {
     pub side: Transmitter,
     pub answer: Read,
 }
 
-#[derive(Drop)]
+#[derive(Clone, Copy)]
 pub struct Written {
     pub side: Transmitter,
     pub answer: Write,

@@ -1,1 +1,2 @@
 // No code: specs/ states and proves that a planned list starts, and what share of the slices each transmitter then gets.
+#![tactic(auto)]

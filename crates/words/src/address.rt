@@ -3,11 +3,11 @@ ghost use Rattle.std.specs.Prelude.{◌≡◌, ◌<◌};
 ghost use Rattle.words.specs.Address.{at, address_of, next_address, is_last, low_of, extension_of, place_of};
 
 // Below 2^18, and even: it names a word.
-#[derive(Drop)]
+#[derive(Clone, Copy)]
 pub struct Address(pub u32);
 
 // Where an address lies in a host memory: at a word of it, or nowhere, and then the 18-bit byte address itself.
-#[derive(Drop)]
+#[derive(Clone, Copy)]
 pub enum Place {
     Inside(usize),
     Outside(u32),

@@ -2,14 +2,14 @@
 ghost use Rattle.std.specs.Prelude.{◌≡◌};
 ghost use Rattle.words.specs.Answers.{read_word};
 
-#[derive(Drop)]
+#[derive(Clone, Copy)]
 pub enum Read {
     Word(u16),
     NoRegister,
     Nothing,
 }
 
-#[derive(Drop)]
+#[derive(Clone, Copy)]
 pub enum Write {
     Done,
     NoRegister,
@@ -19,7 +19,7 @@ pub enum Write {
 }
 
 // What a memory move is answered: done, or that its address was missing, which is the 18-bit byte address tried, or nothing to move.
-#[derive(Drop)]
+#[derive(Clone, Copy)]
 pub enum Move {
     Done,
     Missing(u32),

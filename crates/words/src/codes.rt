@@ -3,7 +3,7 @@ ghost use Rattle.std.specs.Prelude.{◌≡◌};
 ghost use Rattle.words.specs.Codes.{no_codes, codes_shown, codes_cleared};
 
 // A and B, 0 to 3 each.
-#[derive(Drop)]
+#[derive(Clone, Copy)]
 pub struct Codes {
     pub a: u16,
     pub b: u16,

@@ -4,11 +4,11 @@ ghost use Rattle.std.specs.Prelude.{◌≡◌, ◌≤◌};
 ghost use Rattle.words.specs.Count.{count_written, count_after_word, words_of, minus_bytes_of};
 
 // What TSBC and RDBC hold: minus the bytes left, in 16 bits.
-#[derive(Drop)]
+#[derive(Clone, Copy)]
 pub struct ByteCount(pub u16);
 
 // A number of words, 0 to 32,768.
-#[derive(Drop)]
+#[derive(Clone, Copy)]
 pub struct WordCount(pub u16);
 
 impl ByteCount {

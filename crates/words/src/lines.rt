@@ -6,7 +6,7 @@ use crate::parity::parity_line;
 
 // The code A, and the sixteen data lines with their parity; and, which are no lines, whether this is an opening word, and the serial that
 // goes with one.
-#[derive(Drop)]
+#[derive(Clone, Copy)]
 pub struct Sent {
     pub code: u16,
     pub word: u16,
@@ -17,7 +17,7 @@ pub struct Sent {
 
 // The code B, and what the receiver tells beside it: that it rejects or truncates the message, that its count of 128 restarts,
 // that the message which ends here was truncated.
-#[derive(Drop)]
+#[derive(Clone, Copy)]
 pub struct Answer {
     pub code: u16,
     pub rejects: bool,

@@ -5,7 +5,7 @@ ghost use Rattle.words.specs.Load.{Bounded, no_load, words_left, count_loaded, l
 use crate::address::Address;
 use crate::count::{ByteCount, WordCount};
 
-#[derive(Drop)]
+#[derive(Clone, Copy)]
 pub struct Load {
     pub count: ByteCount,
     pub loaded: bool,
@@ -13,7 +13,7 @@ pub struct Load {
 }
 
 // A load one word on, and whether its address wrapped.
-#[derive(Drop)]
+#[derive(Clone, Copy)]
 pub struct Advance {
     pub load: Load,
     pub overflow: bool,

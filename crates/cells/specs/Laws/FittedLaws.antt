@@ -2,9 +2,9 @@
 -- Assumes nothing.
 use Rattle.std.specs.Prelude.{List, ◌≡◌, ℕ, ◌≤◌, length}
 use Rattle.std.proofs.Common.{arith}
-use Rattle.codec.specs.Laws.MasterLaws.{master_loaded}
-use Rattle.codec.specs.Laws.ReceiverLaws.{receiver_loaded}
-use Rattle.codec.specs.Laws.TransmitterLaws.{transmitter_loaded}
+use Rattle.codec.proofs.Laws.MasterLaws.{master_loaded}
+use Rattle.codec.proofs.Laws.ReceiverLaws.{receiver_loaded}
+use Rattle.codec.proofs.Laws.TransmitterLaws.{transmitter_loaded}
 use Rattle.master.specs.Side as M
 use Rattle.receiver.specs.Side as R
 use Rattle.transmitter.specs.Side as T

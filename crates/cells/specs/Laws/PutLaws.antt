@@ -6,9 +6,9 @@ use Rattle.codec.specs.Masters.{enc_master, enc_next, dec_master}
 use Rattle.codec.specs.Receivers.{enc_receiver, dec_receiver}
 use Rattle.codec.specs.Transmitters.{enc_transmitter, dec_transmitter}
 use Rattle.codec.specs.Window.{splice}
-use Rattle.codec.specs.Laws.MasterLaws.{length_master, length_next, master_stored, next_stored}
-use Rattle.codec.specs.Laws.ReceiverLaws.{length_receiver, receiver_stored}
-use Rattle.codec.specs.Laws.TransmitterLaws.{length_transmitter, transmitter_stored}
+use Rattle.codec.proofs.Laws.MasterLaws.{length_master, length_next, master_stored, next_stored}
+use Rattle.codec.proofs.Laws.ReceiverLaws.{length_receiver, receiver_stored}
+use Rattle.codec.proofs.Laws.TransmitterLaws.{length_transmitter, transmitter_stored}
 use Rattle.codec.specs.Laws.WindowLaws.{length_window}
 use Rattle.master.specs.Side as M
 use Rattle.master.specs.declared.side.Master.{Master}

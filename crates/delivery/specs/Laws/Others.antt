@@ -4,7 +4,7 @@ use Rattle.std.specs.Prelude.{Bool, true, false, List, ◌≡◌, refl, ℕ}
 use Rattle.std.proofs.Math.Bool.{and-false}
 use Rattle.std.proofs.Common.{ap, ne_eqb}
 use Rattle.answering.specs.Choice.{may_open, open_with_another}
-use Rattle.answering.specs.Laws.Keeps.{refused_untouched}
+use Rattle.answering.proofs.Laws.Keeps.{refused_untouched}
 use Rattle.laws.specs.Pick.{either}
 use Rattle.receiver.specs.declared.side.Receiver.{Receiver}
 use Rattle.sending.specs.Choice.{acts_on, chosen, destination_of, sent_by}

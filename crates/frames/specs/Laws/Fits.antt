@@ -8,15 +8,15 @@ use Rattle.std.proofs.Math.ListN.{length}
 use Rattle.std.proofs.lemmas.List.{length-replicate}
 use Rattle.cells.specs.Index.{Indexed}
 use Rattle.cells.specs.Laws.FitLaws.{fit_in_range}
-use Rattle.cells.specs.Laws.IndexLaws.{filled, in_range_filled}
+use Rattle.cells.proofs.Laws.IndexLaws.{filled, in_range_filled}
 use Rattle.cells.specs.Fitted.{transmitter_cells, receiver_cells, master_cells, put_transmitter, put_receiver, blank, unit_fitted}
 use Rattle.cells.specs.Layout.{unit_place, transmitter_place, receiver_place, master_place, enc_unit}
 use Rattle.cells.specs.Ranges.{in_range}
-use Rattle.codec.specs.Laws.MasterLaws.{length_master}
+use Rattle.codec.proofs.Laws.MasterLaws.{length_master}
 use Rattle.codec.specs.Masters.{enc_master}
-use Rattle.codec.specs.Laws.ReceiverLaws.{length_receiver}
+use Rattle.codec.proofs.Laws.ReceiverLaws.{length_receiver}
 use Rattle.codec.specs.Receivers.{enc_receiver}
-use Rattle.codec.specs.Laws.TransmitterLaws.{length_transmitter}
+use Rattle.codec.proofs.Laws.TransmitterLaws.{length_transmitter}
 use Rattle.codec.specs.Transmitters.{enc_transmitter}
 use Rattle.codec.specs.Window.{splice}
 use Rattle.codec.specs.Laws.WindowLaws.{length_splice, length_window}

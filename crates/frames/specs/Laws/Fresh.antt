@@ -8,7 +8,7 @@ use native.Mathlib.Omega.{arith}
 use Rattle.std.proofs.Math.ListN.{length}
 use Rattle.cells.specs.Index.{row, looked_through}
 use Rattle.cells.specs.Layout.{count_in, holder_in, unit_place}
-use Rattle.cells.specs.Laws.IndexLaws.{count_filled, holder_filled, index_fits, length_filled, length_row}
+use Rattle.cells.proofs.Laws.IndexLaws.{count_filled, holder_filled, index_fits, length_filled, length_row}
 use Rattle.codec.specs.Laws.WindowLaws.{length_splice, cell_inside}
 use Rattle.fitting.specs.Fit.{units_fitted, headed, fit}
 use Rattle.fitting.specs.SetUp.{number_of, count_of, set_up_good}

@@ -5,7 +5,7 @@ use Rattle.std.specs.Prelude.{true, List, ◌≡◌, refl, ℕ, ◌≤◌, lengt
 use Rattle.std.proofs.Common.{◌∙◌}
 use Rattle.cells.specs.Index.{Indexed}
 use Rattle.cells.specs.Laws.FrameLaws.{SameIndex, SameOwn}
-use Rattle.cells.specs.Laws.IndexLaws as Index
+use Rattle.cells.proofs.Laws.IndexLaws as Index
 use Rattle.cells.specs.Layout.{count_in, holder_in}
 use Rattle.cells.specs.Laws.RangeLaws.{in_range_says}
 use Rattle.cells.specs.Ranges.{in_range}

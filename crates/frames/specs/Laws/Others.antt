@@ -9,7 +9,7 @@ use Rattle.bus.specs.Slice.{slice_passed}
 use Rattle.cells.specs.Fitted.{transmitter_of, receiver_of, master_of}
 use Rattle.cells.specs.Ranges.{in_range}
 use Rattle.cells.specs.Layout.{count_in, holder_in}
-use Rattle.cells.specs.Laws.IndexLaws.{index_fitted}
+use Rattle.cells.proofs.Laws.IndexLaws.{index_fitted}
 use Rattle.master.specs.Section.{next_of}
 use Rattle.sending.specs.Choice.{destination_of}
 use Rattle.slices.specs.Laws.Keeps.{another}

@@ -8,7 +8,7 @@ use Rattle.bus.specs.Slice as B
 use Rattle.bus.specs.declared.slice.Given.{Given}
 use Rattle.cells.specs.Fitted.{transmitter_of}
 use Rattle.cells.specs.Index.{Indexed, transmitter_with, receiver_with}
-use Rattle.cells.specs.Laws.IndexLaws.{index_fitted, receives_as, sends_as, with_kept}
+use Rattle.cells.proofs.Laws.IndexLaws.{index_fitted, receives_as, sends_as, with_kept}
 use Rattle.cells.specs.Layout.{count_in, receiver_address, transmitter_address}
 use Rattle.cells.specs.Search.{first_transmitter, first_receiver}
 use Rattle.laws.specs.Pick.{pick, either}

@@ -8,11 +8,11 @@ use Rattle.std.proofs.Math.ListN.{length}
 use Rattle.cells.specs.Laws.FitLaws.{transmitter_address_stored, receiver_address_stored, memory_length_stored}
 use Rattle.cells.specs.Fitted.{transmitter_of, receiver_of, master_of, blank, unit_fitted}
 use Rattle.cells.specs.Layout.{unit_place, transmitter_place, receiver_place, master_place, own_cell, transmitter_address, receiver_address, memory_length}
-use Rattle.codec.specs.Laws.MasterLaws.{master_stored}
+use Rattle.codec.proofs.Laws.MasterLaws.{master_stored}
 use Rattle.codec.specs.Masters.{dec_master}
-use Rattle.codec.specs.Laws.ReceiverLaws.{receiver_stored}
+use Rattle.codec.proofs.Laws.ReceiverLaws.{receiver_stored}
 use Rattle.codec.specs.Receivers.{dec_receiver}
-use Rattle.codec.specs.Laws.TransmitterLaws.{transmitter_stored}
+use Rattle.codec.proofs.Laws.TransmitterLaws.{transmitter_stored}
 use Rattle.codec.specs.Transmitters.{dec_transmitter}
 use Rattle.codec.specs.Window.{window, splice}
 use Rattle.codec.specs.Laws.WindowLaws.{window_before, window_after, cell_before, cell_past}

@@ -6,7 +6,7 @@ use Rattle.std.proofs.Math.Path.{subst⁻¹}
 use Rattle.cells.specs.Layout.{count_in}
 use Rattle.cells.specs.Ranges.{in_range}
 use Rattle.cells.specs.Laws.FrameLaws.{transmitter_address_kept, receiver_address_kept, memory_length_kept}
-use Rattle.cells.specs.Laws.IndexLaws.{with_kept}
+use Rattle.cells.proofs.Laws.IndexLaws.{with_kept}
 use Rattle.frames.specs.Laws.Leaves.{Agree, Holds, Leaves}
 use Rattle.frames.specs.Laws.Sides.{Sides, sides_of}
 use Rattle.layouts.specs.Same.{Same}

@@ -16,7 +16,7 @@ use Rattle.cells.specs.Layout.{count_in, unit_place, transmitter_place, receiver
 use Rattle.cells.specs.Ranges.{in_range}
 use Rattle.cells.specs.Laws.FittedLaws.{transmitter_within, receiver_within, master_within}
 use Rattle.cells.specs.Laws.FrameLaws.{length_kept, count_kept, holder_kept, index_kept, in_range_kept, window_kept, own_kept, transmitter_address_kept, receiver_address_kept, memory_length_kept}
-use Rattle.cells.specs.Laws.IndexLaws.{with_kept}
+use Rattle.cells.proofs.Laws.IndexLaws.{with_kept}
 use Rattle.cells.specs.Laws.RangeLaws.{fitted}
 use Rattle.codec.specs.Ends as E
 use Rattle.codec.specs.Masters as M
@@ -25,11 +25,11 @@ use Rattle.codec.specs.Receivers.{enc_receiver, dec_receiver}
 use Rattle.codec.specs.Rings.{around, laid_from, silo_of, start_in, length_in, start_for, ring_cell}
 use Rattle.codec.specs.Transmitters.{enc_transmitter, dec_transmitter}
 use Rattle.codec.specs.Window.{cell, window}
-use Rattle.codec.specs.Laws.EndLaws.{length_laid_silo, silo_laid}
-use Rattle.codec.specs.Laws.MasterLaws.{length_master, dec_enc_master}
-use Rattle.codec.specs.Laws.RingLaws.{cell_start, round_laid}
-use Rattle.codec.specs.Laws.ReceiverLaws.{length_receiver, dec_enc_receiver}
-use Rattle.codec.specs.Laws.TransmitterLaws.{length_transmitter, dec_enc_transmitter}
+use Rattle.codec.proofs.Laws.EndLaws.{length_laid_silo, silo_laid}
+use Rattle.codec.proofs.Laws.MasterLaws.{length_master, dec_enc_master}
+use Rattle.codec.proofs.Laws.RingLaws.{cell_start, round_laid}
+use Rattle.codec.proofs.Laws.ReceiverLaws.{length_receiver, dec_enc_receiver}
+use Rattle.codec.proofs.Laws.TransmitterLaws.{length_transmitter, dec_enc_transmitter}
 use Rattle.codec.specs.Laws.WindowLaws.{window_spliced}
 use Rattle.laws.specs.Pick.{here, by}
 use Rattle.master.specs.declared.side.Master.{Master}

@@ -10,7 +10,7 @@ use Rattle.bus.specs.Slice.{master_slice, slot_of, slice_passed}
 use Rattle.bus.specs.declared.slice.Slot.{Slot}
 use Rattle.cells.specs.Layout.{count_in, holder_in, secondary_in}
 use Rattle.cells.specs.Search.{first_secondary}
-use Rattle.cells.specs.Laws.IndexLaws.{index_fitted}
+use Rattle.cells.proofs.Laws.IndexLaws.{index_fitted}
 use Rattle.cells.specs.Laws.SearchLaws.{fitted, secondary_agrees}
 use Rattle.frames.specs.Laws.Kept.{holder_most}
 use Rattle.frames.specs.Laws.Leaves.{Agree, alike}

@@ -6,9 +6,9 @@ use Rattle.cells.specs.Fitted.{Fitted, transmitter_of, receiver_of}
 use Rattle.cells.specs.Layout.{memory_length}
 use Rattle.cells.specs.Laws.FittedLaws.{transmitter_within, receiver_within}
 use Rattle.receiver.specs.Moves as RM
-use Rattle.receiver.specs.Laws.Missing as R
+use Rattle.receiver.proofs.Laws.Missing as R
 use Rattle.transmitter.specs.Moves as TM
-use Rattle.transmitter.specs.Laws.Missing as T
+use Rattle.transmitter.proofs.Laws.Missing as T
 use Rattle.words.specs.Missing.{HandsUp}
 use Rattle.words.specs.declared.answers.Move.{Move}
 use Rattle.moves.specs.Moving.{transmitter_moved, receiver_moved}

@@ -5,7 +5,7 @@ use Rattle.std.specs.Prelude.{Bool, List, ℕ, ◌-◌, ◌^◌, ◌<◌, eqb, l
 use Rattle.std.proofs.Common.{arith, lit<}
 use Rattle.std.proofs.lemmas.Bool.{eqb-false}
 use Rattle.answering.specs.Choice.{open_with_another}
-use Rattle.answering.specs.Laws.Keeps.{code_lt}
+use Rattle.answering.proofs.Laws.Keeps.{code_lt}
 use Rattle.bus.specs.Slice.{heard_or, slice_of, served}
 use Rattle.bus.specs.declared.slice.Given.{Given}
 use Rattle.bus.specs.declared.slice.Slot.{Slot}
@@ -20,7 +20,7 @@ use Rattle.master.specs.Section.{next_of}
 use Rattle.moves.specs.Laws.Missing.{transmitter_short, receiver_short}
 use Rattle.receiver.specs.declared.side.Receiver.{Receiver}
 use Rattle.sending.specs.Choice.{acts_on, chosen, sent_by, destination_of}
-use Rattle.sending.specs.Laws.Keeps.{code_lt as sent_lt}
+use Rattle.sending.proofs.Laws.Keeps.{code_lt as sent_lt}
 use Rattle.slices.specs.Slice.{exchanged, sent_alone}
 use Rattle.slices.specs.declared.Alone.{Alone}
 use Rattle.slices.specs.declared.Pair.{Pair}

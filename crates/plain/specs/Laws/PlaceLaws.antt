@@ -3,9 +3,9 @@
 use Rattle.std.specs.Prelude.{List, ◌≡◌, ℕ, ◌+◌, ◌-◌, ◌*◌, ◌/◌, ◌%◌, ◌≤◌, ◌<◌, ltb, length, get_or, set}
 use Rattle.std.proofs.Common.{ap, ◌∙◌, arith, ltb-true, ltb-false, lit≤}
 use Rattle.codec.specs.Rings.{around, silo_of, start_for}
-use Rattle.codec.specs.Laws.EndLaws.{sized_of, silo_laid}
-use Rattle.codec.specs.Laws.RingLaws.{start_for_lt}
-use Rattle.codec.specs.Laws.SiloLaws as S
+use Rattle.codec.proofs.Laws.EndLaws.{sized_of, silo_laid}
+use Rattle.codec.proofs.Laws.RingLaws.{start_for_lt}
+use Rattle.codec.proofs.Laws.SiloLaws as S
 use Rattle.laws.specs.Pick.{by}
 use Rattle.silos.specs.Silo.{Sized, put, taken, oldest}
 use Rattle.silos.specs.declared.Silo.{Silo}

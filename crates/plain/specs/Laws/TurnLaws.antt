@@ -8,9 +8,9 @@ use Rattle.cells.specs.Layout.{master_place}
 use Rattle.codec.specs.Masters.{RING, SECTION, ADDRESSES, COUNTER, SWITCH, AUT_ADR, SEC, NOW_MST, section_word, enc_next, addresses_in, switch_in, dec_master}
 use Rattle.codec.specs.Rings.{around, silo_of}
 use Rattle.codec.specs.Window.{cell, window, splice}
-use Rattle.codec.specs.Laws.EndLaws.{sized_of}
-use Rattle.codec.specs.Laws.MasterLaws.{made, same, auto_stays, counter_stays}
-use Rattle.codec.specs.Laws.SiloLaws.{silo_cells, next_cells, length_is, same_cells, oldest_is_lem, turned_cells}
+use Rattle.codec.proofs.Laws.EndLaws.{sized_of}
+use Rattle.codec.proofs.Laws.MasterLaws.{made, same, auto_stays, counter_stays}
+use Rattle.codec.proofs.Laws.SiloLaws.{silo_cells, next_cells, length_is, same_cells, oldest_is_lem, turned_cells}
 use Rattle.codec.specs.Laws.WindowLaws.{length_splice, length_window, window_after, cell_window}
 use Rattle.laws.specs.Bits.{bits, bit_at}
 use Rattle.laws.specs.Pick.{by, past, here}

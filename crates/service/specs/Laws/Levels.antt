@@ -9,7 +9,7 @@ use Rattle.laws.specs.Bits.{bits, bit_at}
 use Rattle.plain.specs.Laws.Faults.{no_fault, some_held}
 use Rattle.plain.specs.Laws.Heads.{head_and_silo}
 use Rattle.plain_moves.specs.Moving.{room_by}
-use Rattle.plain_moves.specs.Laws.MayMove.{may_out_at}
+use Rattle.plain_moves.proofs.Laws.MayMove.{may_out_at}
 use Rattle.receiver.specs.Moves as RM
 use Rattle.receiver.specs.Requests as R
 use Rattle.receiver.specs.Side.{data_out_ready}

@@ -2,7 +2,7 @@
 use borrow.Author.Rules.{rules}
 use mathlib.Core.Path.{ap, ap₂, ◌∙◌}
 use Prim.Native.Nat.{ℕ}
-use Rattle.answering.specs.Laws.Keeps.{code_lt}
+use Rattle.answering.proofs.Laws.Keeps.{code_lt}
 use Rattle.transmitter.specs.declared.side.Transmitter.{Transmitter}
 use Rattle.slices.specs.Slice.{ended, pair_of}
 use Rattle.slices.proofs.pass.Statement.{statement}

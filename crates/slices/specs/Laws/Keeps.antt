@@ -6,14 +6,14 @@ use Rattle.std.specs.Prelude.{Bool, true, false, not, ◌&&◌, ◌≡◌, refl,
 use Rattle.std.proofs.Common.{true≢false, sym, ap, ◌∙◌, lit<}
 use Rattle.answering.specs.Choice.{open_with_another}
 use Rattle.answering.specs.Events as A
-use Rattle.answering.specs.Laws.Keeps.{code_lt, later_untouched, opening_breaks_off, other_untouched, within_answered}
+use Rattle.answering.proofs.Laws.Keeps.{code_lt, later_untouched, opening_breaks_off, other_untouched, within_answered}
 use Rattle.answering.specs.Rules.{answered_by, answering, untouched}
 use Rattle.ends.specs.Laws.EndKept.{raised_fits}
 use Rattle.laws.specs.Pick.{pick, past, either}
 use Rattle.receiver.specs.Side as R
 use Rattle.receiver.specs.declared.side.Receiver.{Receiver}
 use Rattle.sending.specs.Choice.{acts_on, all_sent, chosen, is_opening, sent_by, wants_on}
-use Rattle.sending.specs.Laws.Keeps.{code_lt as sent_lt, within_heard}
+use Rattle.sending.proofs.Laws.Keeps.{code_lt as sent_lt, within_heard}
 use Rattle.sending.specs.declared.choice.Choice.{Choice}
 use Rattle.silos.specs.Silo.{is_empty}
 use Rattle.transmitter.specs.Side as T

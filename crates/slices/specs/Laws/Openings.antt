@@ -5,7 +5,7 @@ use Rattle.std.proofs.Common.{true≢false, ap, sym, ◌∙◌}
 use Rattle.std.proofs.lemmas.Bool.{false≢true}
 use Rattle.std.proofs.Math.Path.{subst⁻¹}
 use Rattle.answering.specs.Rules.{answered_by}
-use Rattle.answering.specs.Laws.Openings.{opens_by_word, opens_now_lem}
+use Rattle.answering.proofs.Laws.Openings.{opens_by_word, opens_now_lem}
 use Rattle.laws.specs.Pick.{by, either, pick}
 use Rattle.laws.specs.Laws.Both.{left_of, right_of}
 use Rattle.receiver.specs.declared.side.Receiver.{Receiver}

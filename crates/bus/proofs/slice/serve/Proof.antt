@@ -3,7 +3,7 @@ use borrow.Author.Rules.{rules}
 use borrow.Author.Tests.{lt-ltb, le-ltb}
 use mathlib.Core.Path.{refl, ap, ◌∙◌}
 use Prim.Native.Nat.{ℕ}
-use Rattle.cells.specs.Laws.IndexLaws.{with_fitted}
+use Rattle.cells.proofs.Laws.IndexLaws.{with_fitted}
 use Rattle.laws.specs.Pick.{past, here}
 use Rattle.words.specs.declared.codes.Codes.{Codes}
 use Rattle.bus.specs.Slice.{given, served_or}

@@ -15,7 +15,7 @@ use Rattle.laws.specs.Pick.{pick}
 use Rattle.cells.specs.Index.{row, looked_through}
 use Rattle.cells.specs.Layout.{address_in, count_in, secondary_in}
 use Rattle.cells.specs.Search.{number_in, first_found}
-use Rattle.cells.specs.Laws.IndexLaws.{length_row, row_at}
+use Rattle.cells.proofs.Laws.IndexLaws.{length_row, row_at}
 use Rattle.cells.specs.Laws.RangeLaws.{in_range_says}
 use Rattle.cells.specs.Laws.SearchLaws.{at_most}
 use Rattle.cells.proofs.index.look_through.Statement.{statement}

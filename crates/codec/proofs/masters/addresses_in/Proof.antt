@@ -2,8 +2,8 @@
 use Prim.Native.Nat.{ℕ, ◌≤◌}
 use Rattle.codec.specs.Rings.{length_in, in_order}
 use Rattle.codec.specs.Window.{cell, window}
-use Rattle.codec.specs.Laws.EndLaws.{same_silo}
-use Rattle.codec.specs.Laws.RingLaws.{unrolled_is}
+use Rattle.codec.proofs.Laws.EndLaws.{same_silo}
+use Rattle.codec.proofs.Laws.RingLaws.{unrolled_is}
 use borrow.Author.Rules.{rules}
 use mathlib.Core.Path.{◌≡◌, ap, ◌∙◌}
 use native.Mathlib.Omega.{arith}

@@ -1,6 +1,6 @@
 -- The start place lies in the ring (`start_for_lt`).
 use Rattle.codec.specs.Window.{cell}
-use Rattle.codec.specs.Laws.RingLaws.{start_for_lt}
+use Rattle.codec.proofs.Laws.RingLaws.{start_for_lt}
 use borrow.Author.Rules.{rules}
 use lib.Dec.{lit≤}
 use Rattle.codec.proofs.masters.encode.Statement.{statement}

@@ -1,6 +1,6 @@
 -- By AUT ADR; the start place lies in the ring (`start_next_lt`).
 use Rattle.codec.specs.Window.{cell}
-use Rattle.codec.specs.Laws.RingLaws.{start_next_lt}
+use Rattle.codec.proofs.Laws.RingLaws.{start_next_lt}
 use Rattle.laws.specs.Pick.{here, past}
 use borrow.Author.Rules.{rules}
 use lib.Dec.{lit≤}

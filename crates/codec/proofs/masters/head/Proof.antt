@@ -1,5 +1,5 @@
 -- The section's word fits (`section_lt`).
-use Rattle.codec.specs.Laws.MasterLaws.{section_lt}
+use Rattle.codec.proofs.Laws.MasterLaws.{section_lt}
 use borrow.Author.Rules.{rules}
 use native.Mathlib.Omega.{arith}
 use Rattle.codec.proofs.masters.head.Statement.{statement}

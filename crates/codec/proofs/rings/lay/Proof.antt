@@ -5,7 +5,7 @@ use Prim.Native.Nat.{◌+◌, ◌-◌, ◌≤◌, ◌<◌}
 use native.Mathlib.Omega.{arith}
 use lib.ListN.{length, take, length-set}
 use Rattle.codec.specs.Rings.{around, laid_from}
-use Rattle.codec.specs.Laws.RingLaws.{around_lt, laid_none, laid_more}
+use Rattle.codec.proofs.Laws.RingLaws.{around_lt, laid_none, laid_more}
 use Rattle.codec.proofs.rings.lay.Statement.{statement}
 use Rattle.codec.proofs.rings.lay.Tie as tie
 

@@ -1,7 +1,7 @@
 -- The start lies in the ring (`start_lt`), and no more words leave than it holds.
 use borrow.Author.Rules.{rules}
 use native.Mathlib.Omega.{arith}
-use Rattle.codec.specs.Laws.RingLaws.{start_lt}
+use Rattle.codec.proofs.Laws.RingLaws.{start_lt}
 use Rattle.codec.proofs.rings.start_for.Statement.{statement}
 use Rattle.codec.proofs.rings.start_for.Tie as tie
 

@@ -1,6 +1,6 @@
 -- The start lies in the ring (`start_lt`).
 use borrow.Author.Rules.{rules}
-use Rattle.codec.specs.Laws.RingLaws.{start_lt}
+use Rattle.codec.proofs.Laws.RingLaws.{start_lt}
 use Rattle.codec.proofs.rings.start_next.Statement.{statement}
 use Rattle.codec.proofs.rings.start_next.Tie as tie
 

@@ -2,7 +2,7 @@
 use borrow.Author.Rules.{rules}
 use Prim.Native.Nat.{◌<◌}
 use native.Mathlib.Omega.{arith}
-use Rattle.codec.specs.Laws.RingLaws.{around_lt}
+use Rattle.codec.proofs.Laws.RingLaws.{around_lt}
 use Rattle.codec.proofs.rings.start_on.Statement.{statement}
 use Rattle.codec.proofs.rings.start_on.Tie as tie
 

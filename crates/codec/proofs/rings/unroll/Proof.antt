@@ -6,7 +6,7 @@ use Prim.Native.Nat.{◌+◌, ◌-◌, ◌≤◌, ◌<◌}
 use native.Mathlib.Omega.{arith}
 use lib.ListN.{length, take, drop, length-set}
 use Rattle.codec.specs.Rings.{around, round_from}
-use Rattle.codec.specs.Laws.RingLaws.{around_lt, unrolled}
+use Rattle.codec.proofs.Laws.RingLaws.{around_lt, unrolled}
 use Rattle.codec.proofs.rings.unroll.Statement.{statement}
 use Rattle.codec.proofs.rings.unroll.Tie as tie
 

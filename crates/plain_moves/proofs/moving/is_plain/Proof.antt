@@ -1,5 +1,5 @@
 -- What the test says.
-use Rattle.plain_moves.specs.Laws.PlainMoves.{plain_says}
+use Rattle.plain_moves.proofs.Laws.PlainMoves.{plain_says}
 use Rattle.plain_moves.proofs.moving.is_plain.Statement.{statement}
 use Rattle.plain_moves.proofs.moving.is_plain.Tie as tie
 

@@ -1,7 +1,7 @@
 -- What the tests say.
 use borrow.Author.Rules.{rules}
 use native.Mathlib.Omega.{arith}
-use Rattle.plain_moves.specs.Laws.PlainMoves.{out_head}
+use Rattle.plain_moves.proofs.Laws.PlainMoves.{out_head}
 use Rattle.plain_moves.proofs.moving.is_plain_out.Statement.{statement}
 use Rattle.plain_moves.proofs.moving.is_plain_out.Tie as tie
 

@@ -8,7 +8,7 @@ use native.Mathlib.Omega.{arith}
 use Rattle.cells.specs.Layout.{transmitter_place, memory_length}
 use Rattle.codec.specs.Window.{splice}
 use Rattle.words.specs.declared.answers.Move.{Move}
-use Rattle.plain_moves.specs.Laws.PlainMoves.{out_room, out_plain}
+use Rattle.plain_moves.proofs.Laws.PlainMoves.{out_room, out_plain}
 use Rattle.plain_moves.proofs.moving.load_plain.Statement.{statement}
 use Rattle.plain_moves.proofs.moving.load_plain.Tie as tie
 

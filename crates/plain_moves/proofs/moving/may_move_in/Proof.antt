@@ -2,7 +2,7 @@
 use borrow.Author.Rules.{rules}
 use native.Mathlib.Omega.{arith}
 use Rattle.cells.specs.Layout.{receiver_place}
-use Rattle.plain_moves.specs.Laws.MayMove.{may_in_at}
+use Rattle.plain_moves.proofs.Laws.MayMove.{may_in_at}
 use Rattle.plain_moves.proofs.moving.may_move_in.Statement.{statement}
 use Rattle.plain_moves.proofs.moving.may_move_in.Tie as tie
 

@@ -1,6 +1,6 @@
 -- What the calls gave, one into the next; sending changes no count.
 use borrow.Author.Rules.{rules}
-use Rattle.sending.specs.Laws.Keeps.{block_sent}
+use Rattle.sending.proofs.Laws.Keeps.{block_sent}
 use Rattle.sending.proofs.hearing.hear.Statement.{statement}
 use Rattle.sending.proofs.hearing.hear.Tie as tie
 

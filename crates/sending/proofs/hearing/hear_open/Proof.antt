@@ -1,6 +1,6 @@
 -- At each return the tests that led there say which case of the rule holds.
 use borrow.Author.Rules.{rules}
-use Rattle.sending.specs.Laws.Keeps.{code_lt}
+use Rattle.sending.proofs.Laws.Keeps.{code_lt}
 use Rattle.laws.specs.Pick.{past, here}
 use Rattle.sending.proofs.hearing.hear_open.Statement.{statement}
 use Rattle.sending.proofs.hearing.hear_open.Tie as tie

@@ -15,7 +15,7 @@ use Rattle.codec.specs.Laws.WindowLaws.{length_window}
 use Rattle.plain.specs.Places.{front}
 use Rattle.plain.specs.Laws.Heads.{head_and_silo}
 use Rattle.receiver.specs.Moves as R
-use Rattle.service.specs.Laws.RunsIn.{Able, ran_in, words_there}
+use Rattle.service.proofs.Laws.RunsIn.{Able, ran_in, words_there}
 use Rattle.service.proofs.runs.run_in.Statement.{statement}
 use Rattle.service.proofs.runs.run_in.Tie as tie
 

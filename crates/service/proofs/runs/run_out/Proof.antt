@@ -11,9 +11,9 @@ use Rattle.cells.specs.Layout.{transmitter_place}
 use Rattle.codec.specs.Transmitters.{dec_transmitter}
 use Rattle.codec.specs.Laws.WindowLaws.{length_window}
 use Rattle.plain.specs.Laws.Heads.{head_and_silo}
-use Rattle.plain_moves.specs.Laws.PlainMoves.{out_room}
+use Rattle.plain_moves.proofs.Laws.PlainMoves.{out_room}
 use Rattle.transmitter.specs.Moves as T
-use Rattle.service.specs.Laws.RunsOut.{Able, ran_out}
+use Rattle.service.proofs.Laws.RunsOut.{Able, ran_out}
 use Rattle.service.proofs.runs.run_out.Statement.{statement}
 use Rattle.service.proofs.runs.run_out.Tie as tie
 

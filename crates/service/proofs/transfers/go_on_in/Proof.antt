@@ -13,7 +13,7 @@ use Rattle.laws.specs.Laws.Fields.{bit_lt}
 use Rattle.words.specs.declared.answers.Move.{Move}
 use Rattle.service.specs.Transfers.{Lent, lent, received_on, left_by, receiver_moved_on, words_with, words_in}
 use Rattle.service.specs.Laws.Kept.{in_keeps_length}
-use Rattle.service.specs.Laws.Turns.{goes_on, stops, none_left}
+use Rattle.service.proofs.Laws.Turns.{goes_on, stops, none_left}
 use Rattle.service.proofs.transfers.go_on_in.Statement.{statement}
 use Rattle.service.proofs.transfers.go_on_in.Tie as tie
 

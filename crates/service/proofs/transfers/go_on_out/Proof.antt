@@ -11,7 +11,7 @@ use Rattle.cells.specs.Laws.FittedLaws.{still_fitted}
 use Rattle.words.specs.declared.answers.Move.{Move}
 use Rattle.service.specs.Transfers.{Lent, lent, sent_on, transmitter_moved_on, words_out, cells_left_by}
 use Rattle.service.specs.Laws.Kept.{out_keeps_length}
-use Rattle.service.specs.Laws.Turns.{goes_on, stops, none_left}
+use Rattle.service.proofs.Laws.Turns.{goes_on, stops, none_left}
 use Rattle.service.proofs.transfers.go_on_out.Statement.{statement}
 use Rattle.service.proofs.transfers.go_on_out.Tie as tie
 

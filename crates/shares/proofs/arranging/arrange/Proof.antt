@@ -6,7 +6,7 @@ use native.Mathlib.Omega.{arith}
 use lib.ListN.{length, get_or, take, length-set}
 use Rattle.shares.specs.Arranging.{row_of, woven_from, in_turn}
 use Rattle.shares.specs.Wanted.{shares_in}
-use Rattle.shares.specs.Laws.ArrangeLaws.{length_turn, turn_at}
+use Rattle.shares.proofs.Laws.ArrangeLaws.{length_turn, turn_at}
 use Rattle.shares.specs.Laws.Walking.{filled_next, filled}
 use Rattle.shares.proofs.arranging.arrange.Statement.{statement}
 use Rattle.shares.proofs.arranging.arrange.Tie as tie

@@ -11,7 +11,7 @@ use Rattle.laws.specs.Pick.{past, here}
 use Rattle.shares.specs.Arranging.{largest}
 use Rattle.shares.specs.Plan.{planned}
 use Rattle.shares.specs.Wanted.{shares_in, total}
-use Rattle.shares.specs.Laws.SpreadLaws.{length_planned}
+use Rattle.shares.proofs.Laws.SpreadLaws.{length_planned}
 use Rattle.shares.specs.Laws.Totals.{too_few, too_many, true_sum}
 use Rattle.shares.specs.declared.answers.Plan.{Plan}
 use Rattle.shares.specs.declared.wanted.Share.{Share}

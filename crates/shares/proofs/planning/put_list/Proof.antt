@@ -9,8 +9,8 @@ use lib.ListN.{length}
 use Rattle.laws.specs.Pick.{past, here}
 use Rattle.shares.specs.Arranging.{row_of, in_turn}
 use Rattle.shares.specs.Wanted.{shares_in, total}
-use Rattle.shares.specs.Laws.ArrangeLaws.{length_row}
-use Rattle.shares.specs.Laws.SpreadLaws.{length_spread}
+use Rattle.shares.proofs.Laws.ArrangeLaws.{length_row}
+use Rattle.shares.proofs.Laws.SpreadLaws.{length_spread}
 use Rattle.shares.specs.declared.wanted.Share.{Share}
 use Rattle.shares.proofs.planning.put_list.Statement.{statement}
 use Rattle.shares.proofs.planning.put_list.Tie as tie

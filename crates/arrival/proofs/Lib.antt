@@ -1,0 +1,4 @@
+pub mod Arrival
+pub mod Example
+pub mod Laws
+pub mod Loads

@@ -1,0 +1,2 @@
+pub mod MayMove
+pub mod PlainMoves

@@ -1,0 +1,4 @@
+pub mod Falling
+pub mod RunsIn
+pub mod RunsOut
+pub mod Turns

@@ -1,0 +1,5 @@
+pub mod ArrangeLaws
+pub mod LargestLaws
+pub mod PlanLaws
+pub mod SpreadLaws
+pub mod TestLaws
