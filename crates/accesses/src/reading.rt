@@ -8,6 +8,7 @@ use crate::sections::read_section;
 use cells::sides::{put_receiver, put_transmitter, receiver_of, transmitter_of};
 use words::answers::Read;
 
+#[tactic(auto, using(cells::specs::Laws::FittedLaws::transmitter_within, transmitter_registers::specs::Laws::Keeps::within_read))]
 fn read_transmitter(cells: &mut [u16], unit: usize, offset: u32) -> Read
     requires { Fitted cells.old unit }
     ensures { ◌≡◌ {A = Read × List ℕ} (result, cells.new) (transmitter_read cells.old unit offset) }
@@ -21,6 +22,7 @@ fn read_transmitter(cells: &mut [u16], unit: usize, offset: u32) -> Read
     reading.answer
 }
 
+#[tactic(auto, using(cells::specs::Laws::FittedLaws::receiver_within, receiver_registers::specs::Laws::Keeps::within_read))]
 fn read_receiver(cells: &mut [u16], unit: usize, offset: u32) -> Read
     requires { Fitted cells.old unit }
     ensures { ◌≡◌ {A = Read × List ℕ} (result, cells.new) (receiver_read cells.old unit offset) }

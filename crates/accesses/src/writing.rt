@@ -32,6 +32,7 @@ pub fn reset_unit(cells: &mut [u16], unit: usize)
 
 // ---- a word
 
+#[tactic(auto, using(cells::specs::Laws::FittedLaws::transmitter_within, transmitter_registers::specs::Laws::Keeps::within_written))]
 fn write_transmitter(cells: &mut [u16], unit: usize, offset: u32, word: u16) -> Write
     requires { Fitted cells.old unit }
     ensures { ◌≡◌ {A = Write × List ℕ} (result, cells.new) (transmitter_written cells.old unit offset word) }
@@ -45,6 +46,7 @@ fn write_transmitter(cells: &mut [u16], unit: usize, offset: u32, word: u16) -> 
     written.answer
 }
 
+#[tactic(auto, using(cells::specs::Laws::FittedLaws::receiver_within, receiver_registers::specs::Laws::Keeps::within_written))]
 fn write_receiver(cells: &mut [u16], unit: usize, offset: u32, word: u16) -> Write
     requires { Fitted cells.old unit }
     ensures { ◌≡◌ {A = Write × List ℕ} (result, cells.new) (receiver_written cells.old unit offset word) }
@@ -76,6 +78,7 @@ pub fn write_unit(cells: &mut [u16], unit: usize, offset: u32, word: u16) -> Wri
 
 // ---- a byte
 
+#[tactic(auto, using(cells::specs::Laws::FittedLaws::transmitter_within, transmitter_registers::specs::Laws::Keeps::within_byte))]
 fn write_transmitter_byte(cells: &mut [u16], unit: usize, offset: u32, byte: u8) -> Write
     requires { Fitted cells.old unit }
     ensures { ◌≡◌ {A = Write × List ℕ} (result, cells.new) (transmitter_byte_written cells.old unit offset byte) }
@@ -89,6 +92,7 @@ fn write_transmitter_byte(cells: &mut [u16], unit: usize, offset: u32, byte: u8)
     written.answer
 }
 
+#[tactic(auto, using(cells::specs::Laws::FittedLaws::receiver_within, receiver_registers::specs::Laws::Keeps::within_byte))]
 fn write_receiver_byte(cells: &mut [u16], unit: usize, offset: u32, byte: u8) -> Write
     requires { Fitted cells.old unit }
     ensures { ◌≡◌ {A = Write × List ℕ} (result, cells.new) (receiver_byte_written cells.old unit offset byte) }

@@ -3,7 +3,7 @@
 -- has none of them.
 -- Assumes nothing.
 use Rattle.std.specs.Prelude.{List, [], ◌∷◌, ◌++◌, ◌≡◌, refl, ℕ, zero, suc, ◌+◌, ◌*◌, ◌-◌, ◌^◌, eqb, replicate}
-use Rattle.std.proofs.Common.{◌∙◌, arith, lit≤}
+use Rattle.std.proofs.Common.{◌∙◌, ap, subst, arith, lit≤}
 use Rattle.std.specs.Int.Count.{ones}
 use Rattle.cells.specs.Fitted.{unit_fitted}
 use Rattle.codec.specs.Rings.{in_order, laid_from}
@@ -17,10 +17,12 @@ use Rattle.fitting.specs.Fit.{units_fitted}
 use Rattle.fitting.specs.SetUp.{taken_by, units_good}
 use Rattle.laws.specs.Pick.{pick}
 use Rattle.words.specs.Crc.{crc_bits, crc_word}
+use Rattle.pcl.specs.Link.{slice_call}
+use Rattle.pcl.specs.Sides.{move_call}
 use Rattle.promise.proofs.Demand3.{arrives}
 use Rattle.promise.specs.Opening.{Opening}
-use Rattle.promise.specs.Statement.{Meets, Succeeded, after, parties, round, words_sent}
-use Rattle.promise.specs.World.{World, Event, fit, write, write_byte, slice, move, run, with_cells}
+use Rattle.promise.specs.Statement.{Meets, Succeeded, after, opened, parties, round, words_sent}
+use Rattle.promise.specs.World.{World, Event, fit, write, write_byte, slice, move, run, step, with_cells}
 
 -- so many words, each one more than the last
 abbrev counting : ℕ → ℕ → List ℕ
@@ -168,7 +170,120 @@ events = times 63 (move 1 0 ∷ []) ++ times 133 (move 1 0 ∷ move 2 1 ∷ slic
 abbrev left_in : World → List ℕ × List ℕ
 left_in w = (w.memory 2, window w.cells (unit_place 0 + 2) 200)
 
+-- one of those 133 times
+abbrev turn : List Event
+turn = move 1 0 ∷ move 2 1 ∷ slice 0 0 ∷ slice 0 0 ∷ []
+
+-- ---- the run in four stages, each computed from the world in which the stage before it ends, written out: computed at once it would not
+-- fit into the memory that the prover gives to one proof
+
+-- what these events see of a world; of a memory as a function of the unit no proof by computing would do
+abbrev view : World → List ℕ × List ℕ × List ℕ
+view w = (w.cells, w.memory 1, w.memory 2)
+
+-- the world when so many words are stored: as at the start, but for the cells of unit 1's transmitter and of unit 2's receiver, what the
+-- master sections hold, and unit 2's memory
+abbrev reached : List ℕ → List ℕ → ℕ → World
+reached sending receiving stored =
+    record {
+      cells =
+          (3 ∷ 3 ∷ [])
+          ++ (16 ∷ 1 ∷ 2 ∷ 0 ∷ [])
+          ++ replicate 28 16
+          ++ (16 ∷ 1 ∷ 2 ∷ 0 ∷ [])
+          ++ replicate 28 16
+          ++ (2 ∷ 2 ∷ [])
+          ++ replicate 200 65535
+          ++ (0 ∷ 0 ∷ 0 ∷ 299 ∷ [])
+          ++ sending
+          ++ replicate 73 0
+          ++ (0 ∷ 1090 ∷ [])
+          ++ replicate 50 0
+          ++ (1 ∷ 1 ∷ 0 ∷ 299 ∷ [])
+          ++ replicate 73 0
+          ++ receiving
+          ++ (0 ∷ 1090 ∷ [])
+          ++ replicate 50 0;
+      memory = λ k. pick (eqb k 1) (counting 300 1) (replicate 150 0 ++ counting stored 1 ++ replicate (150 - stored) 0);
+    }
+
+-- the heads of both silos, with the CRC of the words so far, and their rings, in which each word lies until one comes to its cell
+abbrev stored_32 : World
+stored_32 =
+    reached
+    ((4065 ∷ 33 ∷ 2 ∷ 96 ∷ 32734 ∷ 25091 ∷ 78 ∷ 41444 ∷ 1 ∷ []) ++ counting 32 65 ++ counting 32 33)
+    ((96 ∷ 33 ∷ 0 ∷ 182 ∷ 32670 ∷ 24835 ∷ 30 ∷ 41444 ∷ 1 ∷ []) ++ counting 33 1 ++ replicate 31 0)
+    32
+
+abbrev stored_64 : World
+stored_64 =
+    reached
+    ((4033 ∷ 65 ∷ 2 ∷ 128 ∷ 32766 ∷ 25091 ∷ 78 ∷ 55424 ∷ 1 ∷ []) ++ counting 64 65)
+    ((64 ∷ 65 ∷ 0 ∷ 214 ∷ 32702 ∷ 24835 ∷ 30 ∷ 55424 ∷ 1 ∷ []) ++ counting 1 65 ++ counting 63 2)
+    64
+
+-- T has loaded its last word
+abbrev stored_96 : World
+stored_96 =
+    reached
+    ((2145 ∷ 97 ∷ 2 ∷ 130 ∷ 0 ∷ 8705 ∷ 78 ∷ 16093 ∷ 1 ∷ []) ++ counting 2 129 ++ counting 62 67)
+    ((96 ∷ 97 ∷ 0 ∷ 246 ∷ 32734 ∷ 24835 ∷ 30 ∷ 16093 ∷ 1 ∷ []) ++ counting 33 65 ++ counting 31 34)
+    96
+
+first_stage : view (run (times 63 (move 1 0 ∷ []) ++ times 32 turn) (opened start)) ≡ view stored_32
+unfolding first_found in_range ones crc_word crc_bits in_order laid_from
+first_stage = refl
+
+second_stage : view (run (times 32 turn) stored_32) ≡ view stored_64
+unfolding first_found in_range ones crc_word crc_bits in_order laid_from
+second_stage = refl
+
+third_stage : view (run (times 32 turn) stored_64) ≡ view stored_96
+unfolding first_found in_range ones crc_word crc_bits in_order laid_from
+third_stage = refl
+
+-- what is to be shown of a run of events
+abbrev Leaves : List Event → World → Type 0
+Leaves es w = left_in (run es w) ≡ (received, replicate 200 65535)
+
+last_stage : Leaves (times 37 turn) stored_96
+unfolding first_found in_range ones crc_word crc_bits in_order laid_from
+last_stage = refl
+
+-- worlds that look alike still do after each of these events
+after_sending : (w v : World) → view w ≡ view v → view (step (move 1 0) w) ≡ view (step (move 1 0) v)
+after_sending w v e = ap (λ (t : List ℕ × List ℕ × List ℕ). ((move_call t.0 t.1 1 0).1, (move_call t.0 t.1 1 0).2, t.2)) e
+
+after_storing : (w v : World) → view w ≡ view v → view (step (move 2 1) w) ≡ view (step (move 2 1) v)
+after_storing w v e = ap (λ (t : List ℕ × List ℕ × List ℕ). ((move_call t.0 t.2 2 1).1, t.1, (move_call t.0 t.2 2 1).2)) e
+
+after_slice : (w v : World) → view w ≡ view v → view (step (slice 0 0) w) ≡ view (step (slice 0 0) v)
+after_slice w v e = ap (λ (t : List ℕ × List ℕ × List ℕ). ((slice_call t.0 0 0).1, t.1, t.2)) e
+
+after_turns : (k : ℕ) (w v : World) → view w ≡ view v → view (run (times k turn) w) ≡ view (run (times k turn) v)
+after_turns zero w v e = e
+after_turns (suc k) w v e =
+    let sent = after_sending w v e in
+    let stored = after_storing (step (move 1 0) w) (step (move 1 0) v) sent in
+    let once = after_slice (run (move 1 0 ∷ move 2 1 ∷ []) w) (run (move 1 0 ∷ move 2 1 ∷ []) v) stored in
+    let twice = after_slice (run (move 1 0 ∷ move 2 1 ∷ slice 0 0 ∷ []) w) (run (move 1 0 ∷ move 2 1 ∷ slice 0 0 ∷ []) v) once in
+    after_turns k (run turn w) (run turn v) twice
+
+-- a stage, and the turns after it from the world in which it ends
+continued : (es : List Event) (k : ℕ) (w v : World) → view (run es w) ≡ view v → Leaves (times k turn) v → Leaves (es ++ times k turn) w
+continued [] k w v e leaves = ap (λ (t : List ℕ × List ℕ × List ℕ). (t.2, window t.0 (unit_place 0 + 2) 200)) (after_turns k w v e) ∙ leaves
+continued (x ∷ es) k w v e leaves = continued es k (step x w) v e leaves
+
+-- the same of the list that both are: compared as lists of events, and not as what they leave
+continued_as : (all es : List Event) (k : ℕ) (w v : World) → es ++ times k turn ≡ all → view (run es w) ≡ view v → Leaves (times k turn) v → Leaves all w
+continued_as all es k w v same e leaves = subst (λ (fs : List Event). Leaves fs w) same (continued es k w v e leaves)
+
+from_64 : Leaves (times 69 turn) stored_64
+from_64 = continued_as (times 69 turn) (times 32 turn) 37 stored_64 stored_96 refl third_stage last_stage
+
+from_32 : Leaves (times 101 turn) stored_32
+from_32 = continued_as (times 101 turn) (times 32 turn) 69 stored_32 stored_64 refl second_stage from_64
+
 -- the words are there, and none of those cells has changed
 left : left_in (after start events) ≡ (received, replicate 200 65535)
-unfolding first_found in_range ones crc_word crc_bits in_order laid_from
-left = refl
+left = continued_as events (times 63 (move 1 0 ∷ []) ++ times 32 turn) 101 (opened start) stored_32 refl first_stage from_32

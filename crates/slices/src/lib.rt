@@ -28,6 +28,7 @@ pub struct Alone {
 }
 
 // What is sent is answered, and the answer heard.
+#[tactic(auto, using(answering::proofs::Laws::Keeps::code_lt))]
 fn pass(t: Transmitter, choice: Choice, r: Receiver, from: u16, sent: Sent) -> Pair
     requires { (t.end.block ≤ 128) × (r.end.block ≤ 128) }
     ensures { result ≡ passed t choice r from sent }

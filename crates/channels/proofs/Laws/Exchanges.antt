@@ -82,6 +82,11 @@ opening_code Choice.DueCrc e = refl
 opening_code Choice.Word e = refl
 opening_code Choice.Null e = absurd (false≢true e)
 
+-- what has passed, of any receiver after it
+passed_so : (t : Transmitter) (mask : ℕ) (r after : Receiver) → code_of (chosen t) ≡ 2
+    → words after.end.silo ≡ words r.end.silo ++ (bit_xor (sent_by t (chosen t)).word mask ∷ []) → Passed t mask r after
+passed_so t mask r after code word = record { code = code; word = word }
+
 -- T alone: where it acts it gets 00, and is closed after it
 pub alone_shuts : (t : Transmitter) → (sent_alone t).transmitter.end.opened ≡ true → (t.end.opened ≡ true) × ((sent_alone t).transmitter ≡ t)
 alone_shuts t =
@@ -166,10 +171,7 @@ module _ (t : Transmitter) (r : Receiver) (sized : Sized 64 r.end.silo) (from ma
           opened_there = s.opened;
           sender = ⊎_elim (λ (x : StaysOpen r reaching a). x.1 ∙ own_sender r from own x.0) (λ (x : Opens r from reaching a). x.1) (answered_so.channel s.opened);
           passed =
-              record {
-                code = code;
-                word = s.word ∙ ap (λ (n : ℕ). words r.end.silo ++ (n ∷ [])) (reaching_word (sent_by t choice) mask parity);
-              };
+              passed_so t mask r a.side code (s.word ∙ ap (λ (n : ℕ). words r.end.silo ++ (n ∷ [])) (reaching_word (sent_by t choice) mask parity));
           word = λ awaited even.
               ⊎_elim
               (λ (x : StaysOpen r reaching a).

@@ -1,0 +1,43 @@
+-- The answer over all the units is the answer over those that are left.
+use borrow.Author.Rules.{rules}
+use borrow.Author.Tests.{eq-eqb, ne_eqb}
+use mathlib.Core.Path.{◌≡◌, sym, ◌∙◌}
+use Prim.Native.Nat.{◌-◌, ◌≤◌, ◌<◌}
+use native.Mathlib.Nat.{sub-zero}
+use native.Mathlib.Omega.{arith}
+use Rattle.cells.specs.Layout.{count_in}
+use Rattle.cells.specs.Search.{number_in, first_found}
+use Rattle.cells.specs.Laws.RangeLaws.{in_range_says, fitted}
+use Rattle.cells.proofs.Turn.{turn}
+use Rattle.cells.proofs.search.find.Goals as goal
+
+pub count-units-requires : goal.count-units-requires
+count-units-requires c = (in_range_says c.args.cells.now c.requires).header
+
+pub number_in-requires : goal.number_in-requires
+number_in-requires c =
+    let l = c.loop-u in
+    fitted c.args.cells.now c.requires l.u (omega (arith, l.invariant.0, l.invariant.1, c.if-u-units.false))
+
+pub loop-u-preserved : goal.loop-u-preserved
+loop-u-preserved c =
+    let a = c.args in
+    let l = c.loop-u in
+    let units = c.count-units.result in
+    let h : l.u < units = omega arith in
+    (l.invariant.0, omega arith, sym (turn (number_in a.cells.now a.k) a.wanted units l.u h ∙ rw (← c.number_in.ensures, ne_eqb _ _ c.if-number_in-wanted.false)) ∙ l.invariant.2)
+
+pub returns-then-u-units : goal.returns-then-u-units
+unfolding first_found
+returns-then-u-units c =
+    let l = c.loop-u in
+    let e : c.count-units.result - l.u ≡ 0 = omega arith in
+    rw (← l.invariant.2, e)
+
+pub returns-then-number_in-wanted : goal.returns-then-number_in-wanted
+returns-then-number_in-wanted c =
+    let a = c.args in
+    let l = c.loop-u in
+    let units = c.count-units.result in
+    let h : l.u < units = omega arith in
+    rw (← l.invariant.2, turn (number_in a.cells.now a.k) a.wanted units l.u h, ← c.number_in.ensures, eq-eqb _ _ c.if-number_in-wanted.true)

@@ -1,8 +1,0 @@
--- What the admission leads to: a refusal, or the function on a fitted unit.
-use borrow.Author.Rules.{rules}
-use Rattle.pcl.specs.Laws.Admitted.{calls}
-use Rattle.pcl.proofs.calls.read.Statement.{statement}
-use Rattle.pcl.proofs.calls.read.Tie as tie
-
-pub read_spec : {M : Type 1} → statement M
-read_spec = tie.close (tie.spec (λ c. search rules) (λ c. search rules) (λ c. search rules) (λ c. search rules) (λ c. search calls) (λ c. search rules) (λ c. search calls) (λ c. search rules) (λ c. search calls) (λ c. search rules) (λ c. search calls))

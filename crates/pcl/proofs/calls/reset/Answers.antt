@@ -1,0 +1,16 @@
+-- What the admission leads to: a refusal, or the function on a fitted unit.
+use borrow.Author.Rules.{rules}
+use Rattle.pcl.specs.Laws.Admitted.{calls}
+use Rattle.pcl.proofs.calls.reset.Goals as goal
+
+pub reset_unit-requires : goal.reset_unit-requires
+reset_unit-requires c = search calls
+
+pub returns-in-BadState : goal.returns-in-BadState
+returns-in-BadState c = search calls
+
+pub returns-in-NoUnit : goal.returns-in-NoUnit
+returns-in-NoUnit c = search calls
+
+pub returns-in-Fitted : goal.returns-in-Fitted
+returns-in-Fitted c = search calls

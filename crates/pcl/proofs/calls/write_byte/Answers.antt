@@ -1,0 +1,16 @@
+-- What the admission leads to: a refusal, or the function on a fitted unit.
+use borrow.Author.Rules.{rules}
+use Rattle.pcl.specs.Laws.Admitted.{calls}
+use Rattle.pcl.proofs.calls.write_byte.Goals as goal
+
+pub write_unit_byte-requires : goal.write_unit_byte-requires
+write_unit_byte-requires c = search calls
+
+pub returns-in-BadState : goal.returns-in-BadState
+returns-in-BadState c = search calls
+
+pub returns-in-NoUnit : goal.returns-in-NoUnit
+returns-in-NoUnit c = search calls
+
+pub returns-in-Fitted : goal.returns-in-Fitted
+returns-in-Fitted c = search calls

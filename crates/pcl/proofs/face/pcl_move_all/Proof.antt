@@ -1,8 +1,0 @@
--- The call, and its number.
-use borrow.Author.Rules.{rules}
-use Rattle.pcl.specs.Laws.Packed.{faces}
-use Rattle.pcl.proofs.face.pcl_move_all.Statement.{statement}
-use Rattle.pcl.proofs.face.pcl_move_all.Tie as tie
-
-pub pcl_move_all_spec : {M : Type 1} → statement M
-pcl_move_all_spec = tie.close (tie.spec (λ c. search rules) (λ c. search rules) (λ c. search rules) (λ c. search rules) (λ c. search faces))

@@ -1,0 +1,10 @@
+-- The start, the value, and the end of the line.
+use borrow.Author.Rules.{rules}
+use native.Mathlib.Omega.{arith}
+use Rattle.script.specs.Lines.{value_line}
+use Rattle.script.proofs.Putting.{and_then, at_most}
+use Rattle.script.proofs.lines.put_value_line.Goals as goal
+
+pub returns : goal.returns
+unfolding value_line
+returns c = at_most 32 (omega arith) (and_then (and_then c.put_start-start.ensures c.put_value-end.ensures) c.put_byte.ensures)
