@@ -1,2 +1,2 @@
-// No code: specs/ states and proves that readings which are built, sent and received are those that were handed in, and when they are.
+// No code: specs/ states and proofs/ proves that readings which are built, sent and received are those that were handed in, and when they are.
 #![tactic(auto)]

@@ -1,2 +1,2 @@
-// No code: specs/ proves what a transmitter and a receiver make of a whole message.
+// No code: specs/ says and proofs/ proves what a transmitter and a receiver make of a whole message.
 #![tactic(auto)]

@@ -1,2 +1,2 @@
-// No code: specs/ states and proves what the whole link does with a message.
+// No code: specs/ states and proofs/ proves what the whole link does with a message.
 #![tactic(auto)]
