@@ -40,9 +40,7 @@ use Rattle.outcomes.specs.Unchanged.{leaves_all, BothUnchanged}
 use Rattle.outcomes.specs.Laws.MoveCalls.{sender_call, receiver_call, length_moved}
 use Rattle.outcomes.specs.Transfers.{SoManyMoves, after_calls, called}
 
--- ---- what is said
-
--- ---- and proved: one that is refused, or finds nothing to move
+-- ---- one that is refused, or finds nothing to move
 
 module _ (cells memory : List ℕ) (unit side : ℕ) where
   refused : (call : TransferCall) → transfer_value call ≡ 0 → eqb (transfer_number call) 0 ≡ false

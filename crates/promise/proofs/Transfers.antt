@@ -12,10 +12,6 @@ use Rattle.service.specs.Transfers.{Lent, lent}
 use Rattle.promise.specs.World.{World, run}
 use Rattle.promise.specs.Transfers.{AsMoves, lent_to, moves_at}
 
--- ---- what is said
-
--- ---- and proved
-
 module _ (w : World) (unit : ℕ) where
   nothing_lent : w ≡ lent_to w unit (lent w.cells (w.memory unit))
   nothing_lent =
