@@ -5,5 +5,7 @@
 pub mod masters;
 pub mod offsets;
 pub mod reading;
+pub mod registers;
 pub mod sections;
+pub mod sides;
 pub mod writing;

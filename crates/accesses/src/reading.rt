@@ -1,50 +1,34 @@
 // A word read at one fitted unit. Only a read that removes something puts its side back.
-ghost use Rattle.std.specs.Prelude.{◌≡◌, List, ℕ};
+ghost use Rattle.std.specs.Prelude.{◌≡◌, List, ℕ, Result};
 ghost use Rattle.cells.specs.Fitted.{Fitted};
-ghost use Rattle.accesses.specs.Reading.{transmitter_read, receiver_read, unit_read};
+ghost use Rattle.cells.specs.Unit.{Same};
+ghost use Rattle.accesses.specs.Reading.{unit_read};
 
 use crate::offsets::{RCR, TMMR};
 use crate::sections::read_section;
-use cells::sides::{put_receiver, put_transmitter, receiver_of, transmitter_of};
-use words::answers::Read;
+use crate::sides::read_side;
+use cells::unit::Unit;
+use receiver::side::Receiver;
+use transmitter::side::Transmitter;
+use words::answers::Refusal;
 
-#[tactic(auto, using(cells::specs::Laws::FittedLaws::transmitter_within, transmitter_registers::specs::Laws::Keeps::within_read))]
-fn read_transmitter(cells: &mut [u16], unit: usize, offset: u32) -> Read
-    requires { Fitted cells.old unit }
-    ensures { ◌≡◌ {A = Read × List ℕ} (result, cells.new) (transmitter_read cells.old unit offset) }
-{
-    let t = transmitter_of(cells, unit);
-    let reading = transmitter_registers::registers::read(t, offset);
-    if transmitter_registers::registers::removes(t, offset) {
-        put_transmitter(cells, unit, reading.side);
-        return reading.answer;
-    }
-    reading.answer
-}
-
-#[tactic(auto, using(cells::specs::Laws::FittedLaws::receiver_within, receiver_registers::specs::Laws::Keeps::within_read))]
-fn read_receiver(cells: &mut [u16], unit: usize, offset: u32) -> Read
-    requires { Fitted cells.old unit }
-    ensures { ◌≡◌ {A = Read × List ℕ} (result, cells.new) (receiver_read cells.old unit offset) }
-{
-    let r = receiver_of(cells, unit);
-    let reading = receiver_registers::registers::read(r, offset);
-    if receiver_registers::registers::removes(r, offset) {
-        put_receiver(cells, unit, reading.side);
-        return reading.answer;
-    }
-    reading.answer
-}
-
-pub fn read_unit(cells: &mut [u16], unit: usize, offset: u32) -> Read
-    requires { Fitted cells.old unit }
-    ensures { ◌≡◌ {A = Read × List ℕ} (result, cells.new) (unit_read cells.old unit offset) }
+fn read_fitted(unit: &mut Unit<'_>, offset: u32) -> Result<u16, Refusal>
+    ensures answer { ◌≡◌ {A = Result ℕ Refusal × List ℕ} (result, unit.new.cells.now) (unit_read unit.old.cells.now unit.old.number offset) }
+    ensures same { Same unit.old unit.new }
 {
     if offset == TMMR {
-        return read_section(cells, unit);
+        return read_section(unit);
     }
     if offset < RCR {
-        return read_transmitter(cells, unit, offset);
+        return read_side::<Transmitter>(unit, offset);
     }
-    read_receiver(cells, unit, offset)
+    read_side::<Receiver>(unit, offset)
+}
+
+// A word read at an offset of a unit.
+pub fn read_unit(cells: &mut [u16], unit: usize, offset: u32) -> Result<u16, Refusal>
+    requires { Fitted cells.old unit }
+    ensures { ◌≡◌ {A = Result ℕ Refusal × List ℕ} (result, cells.new) (unit_read cells.old unit offset) }
+{
+    read_fitted(&mut Unit::new(cells, unit), offset)
 }

@@ -1,99 +1,102 @@
 // A host's accesses to the master section of one fitted unit: TMMR, and what TX INIT does there.
-ghost use Rattle.std.specs.Prelude.{◌≡◌, List, ℕ};
+ghost use Rattle.std.specs.Prelude.{◌≡◌, List, ℕ, Result};
 ghost use Rattle.master.specs.Side.{Within};
-ghost use Rattle.cells.specs.Fitted.{Fitted, transmitter_of};
+ghost use Rattle.cells.specs.Layout.{holder_in};
+ghost use Rattle.cells.specs.Unit.{Same};
+ghost use Rattle.accesses.specs.Masters.{mastership_of};
 ghost use Rattle.accesses.specs.Reading.{master_read};
 ghost use Rattle.accesses.specs.Writing.{section_reset, after_master, master_written, master_low_written, master_high_written};
 
 use crate::masters::{next_holder, release, see_master};
-use cells::sides::{master_of, put_master, transmitter_of};
-use cells::units::put_holder;
+use cells::unit::Unit;
+use cells::units::set_master;
 use master::registers::{Written, removes, takes_address};
-use words::answers::{Read, Write};
+use master::side::{Master, Mastership};
+use transmitter::side::Transmitter;
+use words::answers::{Refusal, Write};
 
-// CHN OPN and RD SILO of the unit's transmitter.
-fn is_open(cells: &[u16], unit: usize) -> bool
-    requires { Fitted cells.now unit }
-    ensures { result ≡ (transmitter_of cells.now unit).end.opened }
+pub fn read_section(unit: &mut Unit<'_>) -> Result<u16, Refusal>
+    ensures answer { ◌≡◌ {A = Result ℕ Refusal × List ℕ} (result, unit.new.cells.now) (master_read unit.old.cells.now unit.old.number) }
+    ensures same { Same unit.old unit.new }
 {
-    transmitter_of(cells, unit).end.opened
-}
-
-fn reads_silo(cells: &[u16], unit: usize) -> bool
-    requires { Fitted cells.now unit }
-    ensures { result ≡ (transmitter_of cells.now unit).modes.read_silo }
-{
-    transmitter_of(cells, unit).modes.read_silo
-}
-
-pub fn read_section(cells: &mut [u16], unit: usize) -> Read
-    requires { Fitted cells.old unit }
-    ensures { ◌≡◌ {A = Read × List ℕ} (result, cells.new) (master_read cells.old unit) }
-{
-    let mastership = see_master(cells, unit);
-    let opened = is_open(cells, unit);
-    let silo = reads_silo(cells, unit);
-    let section = master_of(cells, unit);
-    let reading = section.read(mastership, opened, silo);
+    let mastership = mastership(unit);
+    let t = unit.side::<Transmitter>();
+    let silo = t.modes.read_silo;
+    let section = unit.side::<Master>();
+    let reading = section.read(mastership, t.end.opened, silo);
     if removes(section, silo) {
-        put_master(cells, unit, reading.side);
-        return Read::Word(reading.word);
+        unit.put(reading.side);
+        return Ok(reading.word);
     }
-    Read::Word(reading.word)
+    Ok(reading.word)
+}
+
+// Who has MASTER, seen from the unit.
+fn mastership(unit: &Unit<'_>) -> Mastership
+    ensures { result ≡ mastership_of (holder_in unit.now.cells.now) unit.now.number }
+{
+    let number = unit.number;
+    let cells = &*unit.cells;
+    see_master(cells, number)
 }
 
 // The section is put back, and the header says who has MASTER.
-fn store_section(cells: &mut [u16], unit: usize, written: Written) -> Write
-    requires fitted { Fitted cells.old unit }
-    requires within { Within written.side }
-    ensures { ◌≡◌ {A = Write × List ℕ} (result, cells.new) (after_master cells.old unit written) }
+fn store_section(unit: &mut Unit<'_>, written: Written) -> Result<Write, Refusal>
+    requires { Within written.side }
+    ensures answer { ◌≡◌ {A = Result Write Refusal × List ℕ} (result, unit.new.cells.now) (after_master unit.old.cells.now unit.old.number written) }
+    ensures same { Same unit.old unit.new }
 {
-    let mastership = written.mastership;
-    let next = next_holder(cells, unit, mastership);
-    put_master(cells, unit, written.side);
-    put_holder(cells, next);
+    let number = unit.number;
+    let cells = &mut *unit.cells;
+    let next = next_holder(cells, number, written.mastership);
+    unit.put(written.side);
+    set_master(unit.cells, next);
     written.answer
 }
 
-pub fn write_section(cells: &mut [u16], unit: usize, word: u16) -> Write
-    requires { Fitted cells.old unit }
-    ensures { ◌≡◌ {A = Write × List ℕ} (result, cells.new) (master_written cells.old unit word) }
+pub fn write_section(unit: &mut Unit<'_>, word: u16) -> Result<Write, Refusal>
+    ensures answer { ◌≡◌ {A = Result Write Refusal × List ℕ} (result, unit.new.cells.now) (master_written unit.old.cells.now unit.old.number word) }
+    ensures same { Same unit.old unit.new }
 {
-    let mastership = see_master(cells, unit);
-    let silo = reads_silo(cells, unit);
-    let written = master_of(cells, unit).write_word(mastership, silo, word);
-    store_section(cells, unit, written)
+    let mastership = mastership(unit);
+    let silo = unit.side::<Transmitter>().modes.read_silo;
+    let section = unit.side::<Master>();
+    let written = section.write_word(mastership, silo, word);
+    store_section(unit, written)
 }
 
-pub fn write_section_low(cells: &mut [u16], unit: usize, byte: u8) -> Write
-    requires { Fitted cells.old unit }
-    ensures { ◌≡◌ {A = Write × List ℕ} (result, cells.new) (master_low_written cells.old unit byte) }
+pub fn write_section_low(unit: &mut Unit<'_>, byte: u8) -> Result<Write, Refusal>
+    ensures answer { ◌≡◌ {A = Result Write Refusal × List ℕ} (result, unit.new.cells.now) (master_low_written unit.old.cells.now unit.old.number byte) }
+    ensures same { Same unit.old unit.new }
 {
-    let silo = reads_silo(cells, unit);
-    let section = master_of(cells, unit);
+    let silo = unit.side::<Transmitter>().modes.read_silo;
+    let section = unit.side::<Master>();
     if !takes_address(section, silo) {
-        return Write::Dropped;
+        return Ok(Write::Dropped);
     }
-    let mastership = see_master(cells, unit);
+    let mastership = mastership(unit);
     let written = section.write_low(mastership, silo, byte);
-    store_section(cells, unit, written)
+    store_section(unit, written)
 }
 
-pub fn write_section_high(cells: &mut [u16], unit: usize, byte: u8) -> Write
-    requires { Fitted cells.old unit }
-    ensures { ◌≡◌ {A = Write × List ℕ} (result, cells.new) (master_high_written cells.old unit byte) }
+pub fn write_section_high(unit: &mut Unit<'_>, byte: u8) -> Result<Write, Refusal>
+    ensures answer { ◌≡◌ {A = Result Write Refusal × List ℕ} (result, unit.new.cells.now) (master_high_written unit.old.cells.now unit.old.number byte) }
+    ensures same { Same unit.old unit.new }
 {
-    let mastership = see_master(cells, unit);
-    let written = master_of(cells, unit).write_high(mastership, byte);
-    store_section(cells, unit, written)
+    let mastership = mastership(unit);
+    let section = unit.side::<Master>();
+    let written = section.write_high(mastership, byte);
+    store_section(unit, written)
 }
 
-pub fn reset_section(cells: &mut [u16], unit: usize)
-    requires { Fitted cells.old unit }
-    ensures { cells.new ≡ section_reset cells.old unit }
+pub fn reset_section(unit: &mut Unit<'_>)
+    ensures reset { unit.new.cells.now ≡ section_reset unit.old.cells.now unit.old.number }
+    ensures same { Same unit.old unit.new }
 {
-    let next = release(cells, unit);
-    let section = master_of(cells, unit).init();
-    put_master(cells, unit, section);
-    put_holder(cells, next);
+    let number = unit.number;
+    let cells = &mut *unit.cells;
+    let next = release(cells, number);
+    let section = unit.side::<Master>();
+    unit.put(section.init());
+    set_master(unit.cells, next);
 }

@@ -1,13 +1,18 @@
 -- Document 01, One slice: what R answers and does by each of its ten rules, and by that of document 02, No. 1.
 -- Assumes nothing.
 use Rattle.std.specs.Prelude.{true, false, ℕ}
+use Rattle.ends.specs.declared.sides.Answered as sides
 use Rattle.receiver.specs.declared.side.Receiver.{Receiver}
 use Rattle.words.specs.Lines.{answered}
+use Rattle.words.specs.declared.lines.Answer.{Answer}
 use Rattle.words.specs.declared.lines.Sent.{Sent}
 use Rattle.answering.specs.Choice.{decided}
 use Rattle.answering.specs.Events.{showing, closed, parity_failed, transmission_failed, reject_completed, succeeded, word_stored, opening, crc_taken, restarted, truncated_now}
 use Rattle.answering.specs.declared.choice.Rule.{Rule}
-use Rattle.answering.specs.declared.rules.Answered.{Answered}
+
+-- R after the slice, and its answer
+abbrev pub Answered : Type 0
+Answered = sides.Answered Receiver Answer
 
 -- R after the slice, and the code B
 abbrev pub answering : ℕ → Receiver → Answered

@@ -2,9 +2,11 @@
 ghost use Rattle.std.specs.Prelude.{◌≡◌};
 ghost use Rattle.answering.specs.Choice.{open_with_another, reopening, decided_closed, decided_crc, decided_word, decided_open, decided};
 
-use receiver::side::{Receiver, has_error, is_data_in_ready, is_data_out_ready};
+use ends::sides::Side;
+use receiver::side::{Receiver, is_data_in_ready, is_data_out_ready};
 use words::lines::Sent;
 
+// The rule that fits.
 #[derive(Clone, Copy)]
 pub enum Rule {
     // 1. Open with another.
@@ -40,7 +42,7 @@ pub enum Rule {
 fn decide_closed(r: Receiver, sent: Sent) -> Rule
     ensures { result ≡ decided_closed r sent }
 {
-    if sent.opening & r.commands.receive_word & !has_error(r) & is_data_in_ready(r) {
+    if sent.opening & r.commands.receive_word & !r.has_error() & is_data_in_ready(r) {
         return Rule::Opens;
     }
     Rule::Refuses

@@ -1,10 +1,9 @@
 -- Readings that are built and sent arrive, on their slice: the theorems. The proofs stand in `Laws`.
 -- Assumes nothing.
-use Rattle.std.specs.Prelude.{List, [], ◌∷◌, ◌++◌, ◌≡◌, refl, ℕ, suc, ◌+◌, ◌≤◌, ltb, length}
+use Rattle.std.specs.Prelude.{List, [], ◌∷◌, ◌++◌, ◌≡◌, refl, ℕ, suc, ◌+◌, ◌≤◌, ltb, length, Ok}
 use Rattle.std.proofs.Common.{ap, sym, ◌∙◌, arith, ltb-false, ltb-true}
 use Rattle.std.proofs.lemmas.Bool.{lt-leb}
 use Rattle.board.specs.Receive.{address_in}
-use Rattle.board.specs.declared.answers.ReceiveCall.{ReceiveCall}
 use Rattle.cells.specs.Fitted.{receiver_of, transmitter_of}
 use Rattle.cells.specs.Layout.{count_in}
 use Rattle.ends.specs.Ends.{raised}
@@ -19,7 +18,6 @@ use Rattle.promise.specs.Statement.{Meets, after, message, own_slices, parties, 
 use Rattle.promise.specs.World.{World, Event}
 use Rattle.promise.proofs.Laws.Opens.{opens}
 use Rattle.promise.proofs.Laws.RegisterReads.{serial_is}
-use Rattle.readings.specs.declared.answers.Read.{Read}
 use Rattle.readings.specs.declared.answers.View.{View}
 use Rattle.readings.proofs.Laws.BuildLaws.{build_made}
 use Rattle.words.specs.Slices.{slices_of}
@@ -108,7 +106,7 @@ module _ (start : World) (o : Opening start) where
 
     -- "never as 0 for want of one": at whatever place of the run receiving gives readings
     pub faithful : (es : List Event) → Meets start es → (room : List ℕ) → 64 ≤ length room → (view : View) (shown : ℕ)
-        → (receiving start (after start es) room).0 ≡ ReceiveCall.Message (Read.Readings view) shown
+        → (receiving start (after start es) room).0 ≡ Ok (record { view = view; serial = shown })
         → Faithful start numbers (after start es) room view shown
     faithful es c room enough view shown e =
         let a = arrival es c in

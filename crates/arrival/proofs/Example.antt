@@ -2,12 +2,13 @@
 -- the slice receiving answers "message not complete", and then it gives them, with the serial 1, that of the first opening since the fit.
 -- The words are put into the memory by the host's writes; every other word of it is 9, so that the 0 is one that was sent.
 -- Assumes nothing.
-use Rattle.std.specs.Prelude.{List, [], ◌∷◌, ◌++◌, map, ◌≡◌, refl, ℕ, zero, suc, ◌+◌, ◌^◌, replicate}
+use Rattle.std.specs.Prelude.{List, [], ◌∷◌, ◌++◌, map, ◌≡◌, refl, ℕ, zero, suc, ◌+◌, ◌^◌, replicate, Result, Ok, Err}
 use Rattle.std.proofs.Common.{ap, sym, ◌∙◌, arith, lit≤}
 use Rattle.std.specs.Int.Count.{ones}
 use Rattle.cells.specs.Fitted.{unit_fitted}
 use Rattle.codec.specs.Rings.{in_order, laid_from}
-use Rattle.board.specs.declared.answers.ReceiveCall.{ReceiveCall}
+use Rattle.board.specs.declared.answers.ReceiveError.{ReceiveError}
+use Rattle.board.specs.declared.answers.Received.{Received}
 use Rattle.cells.specs.Fitted.{transmitter_of}
 use Rattle.cells.specs.Index.{row}
 use Rattle.promise.proofs.Laws.Rows.{rows_say}
@@ -21,7 +22,7 @@ use Rattle.promise.specs.Opening.{Opening}
 use Rattle.promise.specs.Statement.{Meets, after, message, opened, own_slices, parties}
 use Rattle.promise.specs.World.{World, Event, fit, write, write_byte, slice, move, host_write, number_of, run, step}
 use Rattle.readings.specs.Build.{any_reserved}
-use Rattle.readings.specs.declared.answers.Read.{Read}
+use Rattle.readings.specs.declared.answers.ReadError.{ReadError}
 use Rattle.words.specs.Crc.{crc_bits, crc_word}
 use Rattle.words.specs.Slices.{slices_of}
 use Rattle.arrival.proofs.Arrival.{arrival, arrive}
@@ -223,19 +224,19 @@ given_by_theorem = (arrival start opening numbers 6 sent (events 7) meets).from_
 -- ---- what receiving then answers, computed
 
 -- the answer and the room, of which every number was 9
-abbrev received : ℕ → ReceiveCall × List ℕ
+abbrev received : ℕ → Result Received ReceiveError × List ℕ
 received k = let r = receiving start (after start (events k)) (replicate 64 9) in (r.0, r.2)
 
 -- before the opening, and after each slice before the seventh
-not_opened : receiving start start (replicate 64 9) ≡ (ReceiveCall.Message Read.NotComplete 0, start.cells, replicate 64 9)
+not_opened : receiving start start (replicate 64 9) ≡ (Err (ReceiveError.Message ReadError.NotComplete 0), start.cells, replicate 64 9)
 unfolding first_found in_range ones in_order laid_from
 not_opened = refl
 
-not_complete : map received before ≡ replicate 7 (ReceiveCall.Message Read.NotComplete 1, replicate 64 9)
+not_complete : map received before ≡ replicate 7 (Err (ReceiveError.Message ReadError.NotComplete 1), replicate 64 9)
 unfolding first_found in_range ones crc_word crc_bits in_order laid_from
 not_complete = refl
 
-given : received 7 ≡ (ReceiveCall.Message (Read.Readings (record { count = 3 })) 1, 7 ∷ 65536 ∷ 0 ∷ replicate 61 9)
+given : received 7 ≡ (Ok (record { view = record { count = 3 }; serial = 1 }), 7 ∷ 65536 ∷ 0 ∷ replicate 61 9)
 unfolding first_found in_range ones crc_word crc_bits in_order laid_from
 given = refl
 

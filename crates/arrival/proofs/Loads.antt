@@ -1,14 +1,14 @@
 -- Readings that were built in T's memory and loaded from there are the message that is opened, however many of the words T's moves had
 -- taken into its silo.
 -- Assumes nothing.
-use Rattle.std.specs.Prelude.{true, List, [], ◌∷◌, ◌++◌, ◌≡◌, refl, ℕ, zero, suc, ◌+◌, ◌/◌, take, drop}
+use Rattle.std.specs.Prelude.{true, List, [], ◌∷◌, ◌++◌, ◌≡◌, refl, ℕ, zero, suc, ◌+◌, ◌/◌, take, drop, Result, Ok}
 use Rattle.std.proofs.Common.{ap, ap₂, sym, ◌∙◌, arith, eqb-true, take-add}
 use Rattle.std.proofs.Math.Seq.{drop-append-add}
 use Rattle.cells.specs.Fitted.{transmitter_of}
 use Rattle.promise.specs.Statement.{parties}
 use Rattle.promise.specs.World.{World, Event, move, run, step}
 use Rattle.readings.specs.Build.{build_call}
-use Rattle.readings.specs.declared.answers.Built.{Built}
+use Rattle.readings.specs.declared.answers.BuildError.{BuildError}
 use Rattle.silos.specs.Silo.{is_empty}
 use Rattle.transmitter.specs.declared.side.Transmitter.{Transmitter}
 use Rattle.words.specs.Load.{words_left}
@@ -18,7 +18,7 @@ use Rattle.arrival.proofs.Laws.Loads.{moved_once, place_within}
 
 -- before any move: T's silo is empty, and the load has all the words left, from where they stand
 pub loaded : (t : Transmitter) (before numbers left : List ℕ) (words place : ℕ)
-    → ◌≡◌ {A = Built × List ℕ} (Built.Words words, left) (build_call 1 numbers (drop place before)) → is_empty t.end.silo ≡ true
+    → ◌≡◌ {A = Result ℕ BuildError × List ℕ} (Ok words, left) (build_call 1 numbers (drop place before)) → is_empty t.end.silo ≡ true
     → words_left t.end.load ≡ words → t.end.load.address.0 / 2 ≡ place → InMemory t (take place before ++ left) numbers words
 loaded t before numbers left words place built empty all from =
     record {

@@ -1,13 +1,13 @@
 -- Readings that a host builds in T's own memory, and a load that takes the words from there.
 -- Assumes nothing.
-use Rattle.std.specs.Prelude.{true, false, List, ◌++◌, ◌≡◌, ℕ, ◌+◌, ◌/◌, ◌≤◌, ◌<◌, length, take, drop}
+use Rattle.std.specs.Prelude.{true, false, List, ◌++◌, ◌≡◌, ℕ, ◌+◌, ◌/◌, ◌≤◌, ◌<◌, length, take, drop, Result, Ok}
 use Rattle.cells.specs.Fitted.{transmitter_of}
 use Rattle.cells.specs.Layout.{count_in, memory_length}
 use Rattle.cells.specs.Ranges.{in_range}
 use Rattle.delivery.specs.Conditions.{Stretch}
 use Rattle.promise.specs.World.{World}
 use Rattle.readings.specs.Build.{build_call}
-use Rattle.readings.specs.declared.answers.Built.{Built}
+use Rattle.readings.specs.declared.answers.BuildError.{BuildError}
 use Rattle.silos.specs.Silo as Silo
 use Rattle.transmitter.specs.declared.side.Transmitter.{Transmitter}
 use Rattle.words.specs.Load.{words_left}
@@ -18,7 +18,7 @@ pub record InMemory (t : Transmitter) (memory numbers : List ℕ) (words : ℕ) 
   pub before : List ℕ
   pub place : ℕ
   pub left : List ℕ
-  pub built : ◌≡◌ {A = Built × List ℕ} (Built.Words words, left) (build_call 1 numbers (drop place before))
+  pub built : ◌≡◌ {A = Result ℕ BuildError × List ℕ} (Ok words, left) (build_call 1 numbers (drop place before))
   pub stands : memory ≡ take place before ++ left
   -- a load of the words that it wrote: so many of them were moved into T's silo, and the load has the others left
   pub moved : ℕ

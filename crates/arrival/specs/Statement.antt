@@ -4,18 +4,19 @@
 -- Under those conditions both ends have moved until 4 before each of T's slices: a host that is slower lies outside. Of it, and of whatever
 -- else the cells may hold, board.specs.Received says when receiving gives readings, and when it answers "message not complete".
 -- Assumes nothing.
-use Rattle.std.specs.Prelude.{List, map, ◌≡◌, ℕ, ◌+◌, ◌*◌, ◌≤◌, ◌<◌, length, get_or, take}
+use Rattle.std.specs.Prelude.{List, map, ◌≡◌, ℕ, ◌+◌, ◌*◌, ◌≤◌, ◌<◌, length, get_or, take, Result, Ok, Err}
 use Rattle.board.specs.Numbers.{receive_face}
 use Rattle.board.specs.Receive.{receive_call}
-use Rattle.board.specs.declared.answers.ReceiveCall.{ReceiveCall}
+use Rattle.board.specs.declared.answers.ReceiveError.{ReceiveError}
+use Rattle.board.specs.declared.answers.Received.{Received}
 use Rattle.cells.specs.Fitted.{receiver_of}
 use Rattle.promise.specs.Statement.{after, all_slices, message, own_slices, parties, round}
 use Rattle.promise.specs.World.{World, Event}
 use Rattle.readings.specs.Build.{build_call}
 use Rattle.readings.specs.Messages.{lent, over}
 use Rattle.readings.specs.Readings.{lent_reading, number_of}
-use Rattle.readings.specs.declared.answers.Built.{Built}
-use Rattle.readings.specs.declared.answers.Read.{Read}
+use Rattle.readings.specs.declared.answers.BuildError.{BuildError}
+use Rattle.readings.specs.declared.answers.ReadError.{ReadError}
 use Rattle.readings.specs.declared.answers.View.{View}
 use Rattle.words.specs.Slices.{slices_of}
 
@@ -34,11 +35,11 @@ module _ (start : World) where
   pub record Sent (numbers : List ℕ) (words : ℕ) : Type 0 where
     pub room : List ℕ
     pub left : List ℕ
-    pub built : ◌≡◌ {A = Built × List ℕ} (Built.Words words, left) (build_call 1 numbers room)
+    pub built : ◌≡◌ {A = Result ℕ BuildError × List ℕ} (Ok words, left) (build_call 1 numbers room)
     pub opened : (message start).content ≡ take words left
 
   -- receiving at R, with room lent: the answer, and the cells and the room as they are left
-  abbrev pub receiving : World → List ℕ → ReceiveCall × List ℕ × List ℕ
+  abbrev pub receiving : World → List ℕ → Result Received ReceiveError × List ℕ × List ℕ
   receiving w room = receive_call 1 w.cells (w.memory receiver) receiver first room
 
   -- document 02, No. 6: the serial of the opening, T's before it raised by one
@@ -47,13 +48,13 @@ module _ (start : World) where
 
   -- "message not complete", and the serial that the receiver shows beside it: nothing is given, and all stays as it was
   abbrev pub NotComplete : ℕ → World → Type 0
-  NotComplete shown w = (room : List ℕ) → 64 ≤ length room → receiving w room ≡ (ReceiveCall.Message Read.NotComplete shown, w.cells, room)
+  NotComplete shown w = (room : List ℕ) → 64 ≤ length room → receiving w room ≡ (Err (ReceiveError.Message ReadError.NotComplete shown), w.cells, room)
 
   -- the readings, with the serial: so many as were handed in, each as C gets it, and the rest of the room as it was
   abbrev pub Given : List ℕ → World → Type 0
   Given numbers w =
       (room : List ℕ) → 64 ≤ length room
-      → receiving w room ≡ (ReceiveCall.Message (Read.Readings (record { count = length numbers })) serial, w.cells, over (map number_of (lent numbers)) room)
+      → receiving w room ≡ (Ok (record { view = record { count = length numbers }; serial = serial }), w.cells, over (map number_of (lent numbers)) room)
 
   -- the same as C gets it: 1, "message not complete"; and 0 with 65,536 times over it the count of readings, and over that the serial
   abbrev pub receiving_for_c : World → List ℕ → ℕ × List ℕ × List ℕ

@@ -1,133 +1,73 @@
 // The calls as C has them: plain numbers and slices, and an answer's number with its value above it.
 ghost use Rattle.std.specs.Prelude.{◌≡◌};
 ghost use Rattle.board.specs.Outcomes.{ReadFaceOutcome, BuildFaceOutcome, ReceiveFaceOutcome, CollectFaceOutcome};
-ghost use Rattle.board.specs.Numbers.{received_packed, receive_packed, collect_packed};
-ghost use Rattle.pcl.specs.Numbers.{read_call_number, move_call_number};
+ghost use Rattle.board.specs.Numbers.{receive_packed, collect_packed};
 ghost use Rattle.readings.specs.Numbers.{read_number, read_call_packed, built_number, built_packed};
-ghost use Rattle.words.specs.Answers as Words;
 
-use crate::answers::{Collected, ReceiveCall};
+use crate::answers::{CollectError, ReceiveError, Received};
 use crate::collecting::collect;
 use crate::receiving::receive;
-use readings::answers::{Built, Read, ReadCall};
+use readings::answers::{BuildError, ReadError, View};
 use readings::building::build;
 use readings::reading::{count_of, read_numbers};
 
-fn number_read(read: Read) -> u32
-    ensures { result ≡ read_number read }
+fn number_read(answer: Result<View, ReadError>) -> u32
+    ensures { result ≡ read_number answer }
 {
-    match read {
-        Read::NotComplete => 1,
-        Read::WrongLength => 2,
-        Read::UnknownKind => 3,
-        Read::WrongCount => 4,
-        Read::Readings(_) => 0,
+    match answer {
+        Ok(_) => 0,
+        Err(error) => error.into(),
     }
 }
 
-fn pack_read(call: ReadCall) -> u32
-    ensures { result ≡ read_call_packed call }
+fn pack_read(answer: Result<View, ReadError>) -> u32
+    ensures { result ≡ read_call_packed answer }
 {
-    let ReadCall::Message(read) = call else {
-        return 9;
+    let Ok(view) = answer else {
+        return number_read(answer);
     };
-    let Read::Readings(view) = read else {
-        return number_read(read);
-    };
-    count_of(view) as u32 * 65536
-}
-
-fn number_register(read: words::answers::Read) -> u32
-    ensures { result ≡ Words.read_number read }
-{
-    match read {
-        words::answers::Read::Word(_) => 0,
-        words::answers::Read::NoRegister => 2,
-        words::answers::Read::Nothing => 4,
-    }
-}
-
-// A refusal of the link, by its own number.
-fn number_refused(refusal: pcl::answers::ReadCall) -> u32
-    ensures { result ≡ read_call_number refusal }
-{
-    match refusal {
-        pcl::answers::ReadCall::BadState => 9,
-        pcl::answers::ReadCall::NoUnit => 1,
-        pcl::answers::ReadCall::Register(read) => number_register(read),
-    }
+    u32::from(count_of(view)) * 65536
 }
 
 // A count and a serial take 16 bits each.
-fn pack_received(read: Read, serial: u16) -> u64
-    ensures { result ≡ received_packed read serial }
-{
-    let Read::Readings(view) = read else {
-        return number_read(read) as u64;
-    };
-    (count_of(view) as u64 + serial as u64 * 65536) * 65536
-}
-
-fn pack_receive(call: ReceiveCall) -> u64
-    ensures { result ≡ receive_packed call }
-{
-    match call {
-        ReceiveCall::NoRoom => 9,
-        ReceiveCall::Link(refusal) => number_refused(refusal) as u64 + 16,
-        ReceiveCall::Message(read, serial) => pack_received(read, serial),
-    }
-}
-
-fn number_built(built: Built) -> u32
-    ensures { result ≡ built_number built }
-{
-    match built {
-        Built::UnknownKind => 3,
-        Built::NoRoom => 9,
-        Built::WrongCount => 4,
-        Built::ReservedValue => 7,
-        Built::Words(_) => 0,
-    }
-}
-
-fn pack_built(built: Built) -> u32
-    ensures { result ≡ built_packed built }
-{
-    let Built::Words(words) = built else {
-        return number_built(built);
-    };
-    words as u32 * 65536
-}
-
-fn number_moved(answer: words::answers::Move) -> u32
-    ensures { result ≡ Words.move_number answer }
+fn pack_receive(answer: Result<Received, ReceiveError>) -> u64
+    ensures { result ≡ receive_packed answer }
 {
     match answer {
-        words::answers::Move::Done => 0,
-        words::answers::Move::Missing(_) => 0,
-        words::answers::Move::Nothing => 4,
+        Ok(received) => (u64::from(count_of(received.view)) + u64::from(received.serial) * 65536)
+            * 65536,
+        Err(ReceiveError::NoRoom) => 9,
+        Err(ReceiveError::Link(refusal)) => u64::from(u32::from(refusal)) + 16,
+        Err(ReceiveError::Message(error, _)) => u64::from(u32::from(error)),
     }
 }
 
-// A move that the link refused, by its own number.
-fn number_unmoved(refusal: pcl::answers::MoveCall) -> u32
-    ensures { result ≡ move_call_number refusal }
+fn number_built(answer: Result<u16, BuildError>) -> u32
+    ensures { result ≡ built_number answer }
 {
-    match refusal {
-        pcl::answers::MoveCall::BadState => 9,
-        pcl::answers::MoveCall::NoUnit => 1,
-        pcl::answers::MoveCall::Side(answer) => number_moved(answer),
+    match answer {
+        Ok(_) => 0,
+        Err(error) => error.into(),
     }
+}
+
+fn pack_built(answer: Result<u16, BuildError>) -> u32
+    ensures { result ≡ built_packed answer }
+{
+    let Ok(words) = answer else {
+        return number_built(answer);
+    };
+    u32::from(words) * 65536
 }
 
 // An address takes 18 bits.
-fn pack_collected(collected: Collected) -> u64
-    ensures { result ≡ collect_packed collected }
+fn pack_collected(answer: Result<u16, CollectError>) -> u64
+    ensures { result ≡ collect_packed answer }
 {
-    match collected {
-        Collected::Link(refusal) => number_unmoved(refusal) as u64 + 16,
-        Collected::Missing(address) => address as u64 * 65536 + 8,
-        Collected::Moves(moves) => moves as u64 * 65536,
+    match answer {
+        Ok(moves) => u64::from(moves) * 65536,
+        Err(CollectError::Missing(address)) => u64::from(address) * 65536 + 8,
+        Err(CollectError::Link(refusal)) => u64::from(u32::from(refusal)) + 16,
     }
 }
 

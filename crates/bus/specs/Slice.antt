@@ -1,6 +1,6 @@
 -- Document 01, One slice and The master section: a slice on the lent cells.
 -- Assumes nothing.
-use Rattle.std.specs.Prelude.{Bool, List, ℕ, ◌-◌, eqb, ltb}
+use Rattle.std.specs.Prelude.{Bool, List, ℕ, ◌-◌, eqb, ltb, Option, Some, None}
 use Rattle.answering.specs.Choice.{open_with_another}
 use Rattle.cells.specs.Fitted.{transmitter_of, receiver_of, master_of, put_transmitter, put_receiver, put_next}
 use Rattle.cells.specs.Index.{transmitter_with, receiver_with}
@@ -16,7 +16,6 @@ use Rattle.words.specs.Codes.{no_codes}
 use Rattle.words.specs.declared.codes.Codes.{Codes}
 use Rattle.bus.specs.Masterless.{without_master}
 use Rattle.bus.specs.declared.slice.Given.{Given}
-use Rattle.bus.specs.declared.slice.Slot.{Slot}
 
 -- ---- "The receiver R addressed, first that fits"
 
@@ -73,9 +72,9 @@ abbrev pub master_slice : List ℕ → ℕ → ℕ → Bool → Given × List �
 master_slice cells unit mask parity = after_next cells unit (next_of (master_of cells unit)) mask parity
 
 -- "A slice with no master: .. Answer 8, nothing sent." Before any fit there is none (reading 20).
-abbrev pub slot_of : Given × List ℕ → Slot × List ℕ
-slot_of p = (Slot.Given p.0, p.1)
+abbrev pub slot_of : Given × List ℕ → Option Given × List ℕ
+slot_of p = (Some p.0, p.1)
 
-abbrev pub slice_passed : List ℕ → ℕ → Bool → Slot × List ℕ
+abbrev pub slice_passed : List ℕ → ℕ → Bool → Option Given × List ℕ
 slice_passed cells mask parity =
-    pick (eqb (holder_in cells) 0) (Slot.NoMaster, without_master cells) (slot_of (master_slice cells (holder_in cells - 1) mask parity))
+    pick (eqb (holder_in cells) 0) (None, without_master cells) (slot_of (master_slice cells (holder_in cells - 1) mask parity))

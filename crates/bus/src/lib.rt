@@ -2,5 +2,6 @@
 // no master does.
 #![tactic(auto)]
 
+pub mod damage;
 pub mod masterless;
 pub mod slice;

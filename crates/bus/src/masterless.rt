@@ -1,34 +1,35 @@
 // A slice with no master: the lowest unit with SEC takes over, or every transmitter that wants to send gets MST DWN.
 ghost use Rattle.std.specs.Prelude.{true, ◌≡◌};
-ghost use Rattle.cells.specs.Fitted.{Fitted};
 ghost use Rattle.cells.specs.Layout.{count_in};
+ghost use Rattle.cells.specs.Fitted.{Fitted};
 ghost use Rattle.cells.specs.Ranges.{in_range};
 ghost use Rattle.bus.specs.Masterless.{taken_over_by, missed_at, missed_up_to, without_master};
 
-use cells::layout::UNITS;
 use cells::search::find_secondary;
-use cells::sides::{master_of, put_master, put_transmitter, transmitter_of};
-use cells::units::{count, put_holder};
+use cells::sides::{put, side};
+use cells::units::{count, set_master};
+use master::side::Master;
 use transmitter::down::{miss_master, misses_master};
+use transmitter::side::Transmitter;
 
 fn take_over(cells: &mut [u16], unit: usize)
     requires { Fitted cells.old unit }
     ensures { cells.new ≡ taken_over_by cells.old unit }
 {
-    let holder = (unit + 1) as u16;
-    let section = master_of(cells, unit).take_over();
-    put_master(cells, unit, section);
-    put_holder(cells, holder);
+    let section = side::<Master>(cells, unit);
+    put(cells, unit, section.take_over());
+    set_master(cells, Some(unit));
 }
 
 // A transmitter that does not want to send stays as it was.
+#[tactic(auto, using(transmitter::specs::Laws::Keeps::within_missed))]
 fn miss_at(cells: &mut [u16], unit: usize)
     requires { Fitted cells.old unit }
     ensures { cells.new ≡ missed_at cells.old unit }
 {
-    let t = transmitter_of(cells, unit);
+    let t = side::<Transmitter>(cells, unit);
     if misses_master(t) {
-        put_transmitter(cells, unit, miss_master(t));
+        put(cells, unit, miss_master(t));
         return;
     }
 }
@@ -46,8 +47,7 @@ pub fn pass_masterless(cells: &mut [u16])
     requires { in_range cells.old ≡ true }
     ensures { cells.new ≡ without_master cells.old }
 {
-    let unit = find_secondary(cells);
-    if unit < UNITS {
+    if let Some(unit) = find_secondary(cells) {
         take_over(cells, unit);
         return;
     }

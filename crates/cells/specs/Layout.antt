@@ -1,9 +1,10 @@
 -- Where everything lies in the lent cells: a header of 66 cells, and a block of 202 for each fitted unit. docs/STATE.md has the table.
 -- Assumes nothing.
-use Rattle.std.specs.Prelude.{List, [], ◌∷◌, ℕ, ◌+◌, ◌-◌, ◌*◌, ◌/◌, ◌%◌, ◌^◌, min, set}
+use Rattle.std.specs.Prelude.{List, [], ◌∷◌, ℕ, ◌+◌, ◌-◌, ◌*◌, ◌/◌, ◌%◌, ◌^◌, min, set, eqb, Option, Some, None}
 use Rattle.codec.specs.Masters.{SECTION, SEC}
 use Rattle.codec.specs.Window.{cell}
 use Rattle.laws.specs.Bits.{bits}
+use Rattle.laws.specs.Pick.{pick}
 
 -- ---- the header
 
@@ -20,6 +21,14 @@ count_in cells = cell cells COUNT
 
 abbrev pub holder_in : List ℕ → ℕ
 holder_in cells = cell cells HOLDER
+
+-- the unit that such a cell names, and the cell of a master
+abbrev pub held_by : ℕ → Option ℕ
+held_by holder = pick (eqb holder 0) None (Some (holder - 1))
+
+abbrev pub holder_of : Option ℕ → ℕ
+holder_of None = 0
+holder_of (Some unit) = unit + 1
 
 abbrev pub put_holder : List ℕ → ℕ → List ℕ
 put_holder cells holder = set cells HOLDER holder

@@ -3,4 +3,5 @@ pub mod Index
 pub mod Layout
 pub mod Ranges
 pub mod Search
+pub mod Unit
 pub mod Laws

@@ -1,7 +1,7 @@
 -- The units by their addresses, and by SEC: a look through all of them. A slice finds its units by the index (`Index`), which from a
 -- fit on says the same.
 -- Assumes nothing.
-use Rattle.std.specs.Prelude.{List, ℕ, zero, suc, eqb, ltb}
+use Rattle.std.specs.Prelude.{List, ℕ, zero, suc, eqb, ltb, Option, Some, None}
 use Rattle.laws.specs.Pick.{pick}
 use Rattle.cells.specs.Layout.{address_in, transmitter_address, receiver_address, secondary_in}
 
@@ -9,6 +9,10 @@ use Rattle.cells.specs.Layout.{address_in, transmitter_address, receiver_address
 unfoldable pub first_found : (ℕ → ℕ) → ℕ → ℕ → ℕ → ℕ
 first_found number_of a zero i = 16
 first_found number_of a (suc n) i = pick (eqb (number_of i) a) i (first_found number_of a n (suc i))
+
+-- the unit of such a number: 16 is no unit's
+abbrev pub named : ℕ → Option ℕ
+named n = pick (ltb n 16) (Some n) None
 
 -- the first of `count` units with that transmitter address
 abbrev pub first_transmitter : List ℕ → ℕ → ℕ → ℕ

@@ -6,4 +6,6 @@ pub mod layout;
 pub mod ranges;
 pub mod search;
 pub mod sides;
+pub mod unit;
+pub mod unit_sides;
 pub mod units;

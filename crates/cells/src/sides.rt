@@ -1,58 +1,31 @@
 // A fitted unit's sides: out of the cells, and put back into them.
-ghost use Rattle.std.specs.Prelude.{◌≡◌};
-ghost use Rattle.cells.specs.Fitted.{Fitted, transmitter_of, receiver_of, master_of, put_transmitter, put_receiver, put_master, put_next};
+ghost use Rattle.std.specs.Prelude.{◌≡◌, ◌+◌};
+ghost use Rattle.cells.specs.Fitted.{Fitted, put_next};
+ghost use Rattle.cells.specs.Layout.{unit_place};
+ghost use Rattle.codec.specs.Window.{window, splice};
 ghost use Rattle.master.specs.Side as M;
-ghost use Rattle.receiver.specs.Side as R;
-ghost use Rattle.transmitter.specs.Side as T;
 
-use crate::layout::{BLOCK, HEADER, MASTER, RECEIVER, TRANSMITTER};
-use codec::masters::{load_master, store_master, store_next};
-use codec::receivers::{load_receiver, store_receiver};
-use codec::transmitters::{load_transmitter, store_transmitter};
+use crate::layout::{BLOCK, HEADER, MASTER};
+use codec::in_window::{InWindow, load, store};
+use codec::masters::store_next;
 use master::side::Master;
-use receiver::side::Receiver;
-use transmitter::side::Transmitter;
 
-pub fn transmitter_of(cells: &[u16], unit: usize) -> Transmitter
+// A side of a unit: its transmitter, its receiver or its master section.
+pub fn side<S: InWindow>(cells: &[u16], unit: usize) -> S
     requires { Fitted cells.now unit }
-    ensures { result ≡ transmitter_of cells.now unit }
+    ensures value { result ≡ S.decoded (window cells.now (unit_place unit + S.PLACE) S.SIZE) }
+    ensures within { S.Within result }
 {
-    load_transmitter(cells, HEADER + unit * BLOCK + TRANSMITTER)
+    load(cells, HEADER + unit * BLOCK + S::PLACE)
 }
 
-pub fn put_transmitter(cells: &mut [u16], unit: usize, t: Transmitter)
-    requires { Fitted cells.old unit × T.Within t }
-    ensures { cells.new ≡ put_transmitter cells.old unit t }
+// A side of a unit put back.
+pub fn put<S: InWindow>(cells: &mut [u16], unit: usize, side: S)
+    requires fitted { Fitted cells.old unit }
+    requires within { S.Within side }
+    ensures { cells.new ≡ splice cells.old (unit_place unit + S.PLACE) (S.encoded (window cells.old (unit_place unit + S.PLACE) S.SIZE) side) }
 {
-    store_transmitter(cells, HEADER + unit * BLOCK + TRANSMITTER, t);
-}
-
-pub fn receiver_of(cells: &[u16], unit: usize) -> Receiver
-    requires { Fitted cells.now unit }
-    ensures { result ≡ receiver_of cells.now unit }
-{
-    load_receiver(cells, HEADER + unit * BLOCK + RECEIVER)
-}
-
-pub fn put_receiver(cells: &mut [u16], unit: usize, r: Receiver)
-    requires { Fitted cells.old unit × R.Within r }
-    ensures { cells.new ≡ put_receiver cells.old unit r }
-{
-    store_receiver(cells, HEADER + unit * BLOCK + RECEIVER, r);
-}
-
-pub fn master_of(cells: &[u16], unit: usize) -> Master
-    requires { Fitted cells.now unit }
-    ensures { result ≡ master_of cells.now unit }
-{
-    load_master(cells, HEADER + unit * BLOCK + MASTER)
-}
-
-pub fn put_master(cells: &mut [u16], unit: usize, m: Master)
-    requires { Fitted cells.old unit × M.Within m }
-    ensures { cells.new ≡ put_master cells.old unit m }
-{
-    store_master(cells, HEADER + unit * BLOCK + MASTER, m);
+    store(cells, HEADER + unit * BLOCK + S::PLACE, side);
 }
 
 // A section gone on by a slice.

@@ -2,7 +2,7 @@
 ghost use Rattle.std.specs.Prelude.{[], ◌∷◌, ◌≡◌, ◌+◌, ◌≤◌, ◌<◌, length};
 ghost use Rattle.codec.specs.Window.{cell, splice};
 ghost use Rattle.cells.specs.Fitted.{Fitted, blank};
-ghost use Rattle.cells.specs.Layout.{count_in, holder_in, put_holder, address_in, memory_length, secondary_in, enc_unit};
+ghost use Rattle.cells.specs.Layout.{count_in, holder_in, held_by, holder_of, put_holder, address_in, memory_length, secondary_in, enc_unit};
 
 use crate::layout::{BLOCK, COUNT, HEADER, HOLDER, MASTER, MEMORY_HIGH, MEMORY_LOW};
 use codec::masters::{SEC, SECTION};
@@ -25,19 +25,24 @@ pub fn count(cells: &[u16]) -> usize
     cell_at(cells, COUNT)
 }
 
-// Who is master: 0 nobody, else the unit's number + 1.
-pub fn holder(cells: &[u16]) -> u16
+// The number of the unit that is master.
+pub fn master(cells: &[u16]) -> Option<usize>
     requires { 66 ≤ length cells.now }
-    ensures { result ≡ holder_in cells.now }
+    ensures { result ≡ held_by (holder_in cells.now) }
 {
-    cells[HOLDER]
+    (cells[HOLDER] as usize).checked_sub(1)
 }
 
-pub fn put_holder(cells: &mut [u16], holder: u16)
-    requires { 66 ≤ length cells.old }
-    ensures { cells.new ≡ put_holder cells.old holder }
+// In the header's cell it is 0 for nobody, else the unit's number + 1.
+pub fn set_master(cells: &mut [u16], master: Option<usize>)
+    requires header { 66 ≤ length cells.old }
+    requires master_bound { holder_of master < 65536 }
+    ensures { cells.new ≡ put_holder cells.old (holder_of master) }
 {
-    cells[HOLDER] = holder;
+    cells[HOLDER] = match master {
+        None => 0,
+        Some(unit) => (unit + 1) as u16,
+    };
 }
 
 // The header of a fit: so many units, and no master.
@@ -54,11 +59,7 @@ pub fn address_in(cells: &[u16], k: usize, u: usize) -> usize
     requires { (k < 4) × Fitted cells.now u }
     ensures { result ≡ address_in cells.now k u }
 {
-    let last = cell_at(cells, HEADER + u * BLOCK + k);
-    if last > 30 {
-        return 31;
-    }
-    last + 1
+    cell_at(cells, HEADER + u * BLOCK + k).min(30) + 1
 }
 
 // In words.

@@ -2,9 +2,8 @@
 -- (`Handed`), damage and further fits included. The proofs stand in `Laws`.
 -- Assumes nothing.
 use Rattle.std.proofs.Common.{true≢false, ap, sym, ◌∙◌, arith}
-use Rattle.std.specs.Prelude.{List, ◌≡◌, ℕ, ◌<◌}
+use Rattle.std.specs.Prelude.{List, ◌≡◌, ℕ, ◌<◌, Ok}
 use Rattle.cells.specs.Layout.{count_in}
-use Rattle.pcl.specs.declared.answers.SerialCall.{SerialCall}
 use Rattle.promise.specs.Reports.{Serial}
 use Rattle.promise.proofs.Laws.RegisterReads.{serial_is}
 use Rattle.promise.specs.World.{World, Event, fit, AllHanded, number_of, step}
@@ -38,8 +37,8 @@ module _ (w : World) (setup : List ℕ) (done : number_of (fit setup) w ≡ 0) w
   pub serials_begin : (unit : ℕ) → unit < count_in begun.world.cells → Serial begun.world unit 0 0 × Serial begun.world unit 1 0
   serials_begin unit there =
       let b = fit_done w.cells setup done in (
-        serial_is begun.world b.ranged unit there 0 0 (ap SerialCall.Serial (b.serials unit there)),
-        serial_is begun.world b.ranged unit there 1 0 (ap SerialCall.Serial (b.serials_there unit there)),
+        serial_is begun.world b.ranged unit there 0 0 (ap Ok (b.serials unit there)),
+        serial_is begun.world b.ranged unit there 1 0 (ap Ok (b.serials_there unit there)),
       )
 
   pub channels : (es : List Event) → AllHanded es → Channels (past es begun)

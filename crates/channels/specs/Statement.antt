@@ -1,6 +1,6 @@
 -- The promise over runs of calls, since document 02, No. 1; since No. 6 of the serials, and since No. 8 of the index.
 -- Assumes nothing.
-use Rattle.std.specs.Prelude.{true, false, List, [], ◌∷◌, ◌++◌, ◌≡◌, ℕ, ◌%◌, ◌≤◌, ◌<◌}
+use Rattle.std.specs.Prelude.{true, false, List, [], ◌∷◌, ◌++◌, ◌≡◌, ℕ, ◌%◌, ◌≤◌, ◌<◌, Result, Option}
 use Rattle.std.specs.Int.Bits.{bit_xor}
 use Rattle.cells.specs.Fitted.{transmitter_of, receiver_of}
 use Rattle.cells.specs.Index.{Indexed}
@@ -8,7 +8,6 @@ use Rattle.cells.specs.Layout.{count_in, receiver_address, transmitter_address}
 use Rattle.laws.specs.Pick.{pick}
 use Rattle.pcl.specs.Link.{slice_call}
 use Rattle.pcl.specs.Numbers.{a_of, address_of, b_of, slice_number, slice_value}
-use Rattle.pcl.specs.declared.answers.SliceCall.{SliceCall}
 use Rattle.promise.specs.Kinds.{kind_of, own}
 use Rattle.promise.specs.Reports.{Serial}
 use Rattle.promise.specs.World.{World, Event, fit, write, write_byte, read, slice, move, period, reset, level, serial, host_write, Handed, AllHanded, step}
@@ -17,6 +16,8 @@ use Rattle.sending.specs.Choice.{chosen, code_of, sent_by}
 use Rattle.silos.specs.Silo.{count, oldest, words}
 use Rattle.transmitter.specs.declared.side.Transmitter.{Transmitter}
 use Rattle.channels.specs.History.{Past, fits_again, next, opens_now, past, receiver_open, receiver_serial, sender_open}
+use Rattle.words.specs.declared.answers.Refusal.{Refusal}
+use Rattle.bus.specs.declared.slice.Given.{Given}
 
 -- ---- a channel open at both ends
 
@@ -181,11 +182,11 @@ AddressesIndexed p = Indexed p.world.cells
 -- ---- success
 
 -- what a slice call answers
-abbrev pub called_in : Past → ℕ → ℕ → SliceCall
+abbrev pub called_in : Past → ℕ → ℕ → Result (Option Given) Refusal
 called_in p mask parity = (slice_call p.world.cells mask parity).0
 
 -- it is answered 0, with A 11 and B 11
-pub record Succeeds (call : SliceCall) : Type 0 where
+pub record Succeeds (call : Result (Option Given) Refusal) : Type 0 where
   pub number : slice_number call ≡ 0
   pub a : a_of (slice_value call) ≡ 3
   pub b : b_of (slice_value call) ≡ 3

@@ -1,3 +1,4 @@
+pub mod CopyLaws
 pub mod EndLaws
 pub mod MasterLaws
 pub mod ReceiverLaws

@@ -1,4 +1,5 @@
 pub mod Ends
+pub mod Head
 pub mod Masters
 pub mod Receivers
 pub mod Rings

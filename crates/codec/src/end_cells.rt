@@ -1,13 +1,9 @@
 // What the windows of a transmitter and of a receiver have in common.
-ghost use Rattle.std.specs.Prelude.{◌++◌, ◌≡◌, ◌≤◌, ◌<◌};
+ghost use Rattle.std.specs.Prelude.{◌≡◌, ◌≤◌, ◌<◌, length};
 ghost use Rattle.codec.specs.Ends.{head_of, window_of, silo_in, load_of, codes_of, end_in};
-ghost use Rattle.codec.specs.Rings.{laid_from};
-ghost use Rattle.codec.specs.Window.{window};
-ghost use Rattle.silos.specs.Silo.{words};
 
-use crate::readings::{read_most, read_word};
-use crate::rings::{lay, length_in, start_for, start_in, unroll};
-use crate::windows::{put, take};
+use crate::readings::read_most;
+use crate::rings::{lay_silo, silo_of, start_for};
 use ends::End;
 use silos::Silo;
 use words::address::Address;
@@ -39,24 +35,14 @@ const CRC: usize = 7;
 
 const SERIAL: usize = 8;
 
-const SILO: usize = 9;
+pub const SILO: usize = 9;
 
 // In the control cell: whether the count is loaded, the period's mark, and EA16 with EA17 above it.
-const LOADED: u16 = 1;
+pub const LOADED: u16 = 1;
 
 pub const MARK: u16 = 3;
 
-const EA16: u16 = 4;
-
-// The cells before the ring's, and the ring's.
-fn join(head: [u16; SILO], cells: [u16; 64]) -> [u16; SIDE]
-    ensures { result ≡ head ++ cells }
-{
-    let mut w = [0u16; SIDE];
-    put(&mut w, 0, &head);
-    put(&mut w, SILO, &cells);
-    w
-}
+pub const EA16: u16 = 4;
 
 // The cells before the ring's: where it starts, the values of an end, the cell of one side only, and the two cells of bits.
 fn head(start: u16, end: End, own: u16, control: u16, status: u16) -> [u16; SILO]
@@ -83,42 +69,25 @@ fn head(start: u16, end: End, own: u16, control: u16, status: u16) -> [u16; SILO
     ]
 }
 
-// The ring that stood there, with the words of a silo from a place on.
-fn ring_of(old: [u16; SIDE], silo: Silo, start: u16) -> [u16; 64]
-    requires { (start < 64) × (silo.held ≤ 64) }
-    ensures { result ≡ laid_from start (words silo) (window old 9 64) }
-{
-    let mut ring = [0u16; 64];
-    take(&mut ring, &old, SILO);
-    let words = silo.cells;
-    lay(&mut ring, &words, start as usize, silo.held as usize);
-    ring
-}
-
 // In the place of a window that stood there.
-pub fn window_of(old: [u16; SIDE], end: End, own: u16, control: u16, status: u16) -> [u16; SIDE]
-    requires { end.silo.held ≤ 64 }
-    ensures { result ≡ window_of old end own control status }
+pub fn window_of(cells: &mut [u16], end: End, own: u16, control: u16, status: u16)
+    requires whole { length cells.old ≡ 73 }
+    requires room { end.silo.held ≤ 64 }
+    ensures { cells.new ≡ window_of cells.old end own control status }
 {
     let silo = end.silo;
-    let start = start_for(64, old[RING], silo.held);
-    join(
-        head(start, end, own, control, status),
-        ring_of(old, silo, start),
-    )
+    let start = start_for(64, cells[RING], silo.held);
+    lay_silo(&mut cells[SILO..], silo, start);
+    let head = head(start, end, own, control, status);
+    cells[..SILO].copy_from_slice(&head);
 }
 
 // Its words in order.
-fn silo_in(w: [u16; SIDE]) -> Silo
-    ensures { result ≡ silo_in w }
+fn silo_in(cells: &[u16]) -> Silo
+    requires { length cells.now ≡ 73 }
+    ensures { result ≡ silo_in cells.now }
 {
-    let start = start_in(64, w[RING]);
-    let held = length_in(64, w[RING]);
-    let mut ring = [0u16; 64];
-    take(&mut ring, &w, SILO);
-    let mut cells = [0u16; 64];
-    unroll(&mut cells, &ring, start as usize, held as usize);
-    Silo { cells, held }
+    silo_of::<64>(cells[RING], &cells[SILO..])
 }
 
 fn load_of(low: u16, count: u16, control: u16) -> Load
@@ -141,8 +110,9 @@ fn codes_of(status: u16) -> Codes
 }
 
 // At most 128 words since the last CRC. Where the channel's bit stands, and where a period's mark counts, is each side's own matter.
-pub fn end_in(w: [u16; SIDE], opened: bool, mark: bool) -> End
-    ensures { result ≡ end_in w opened mark }
+pub fn end_in(w: &[u16], opened: bool, mark: bool) -> End
+    requires { length w.now ≡ 73 }
+    ensures { result ≡ end_in w.now opened mark }
 {
     End {
         silo: silo_in(w),
@@ -150,8 +120,8 @@ pub fn end_in(w: [u16; SIDE], opened: bool, mark: bool) -> End
         shown: codes_of(w[STATUS]),
         opened,
         block: read_most(w[BLOCK], 128),
-        crc: read_word(w[CRC]),
+        crc: w[CRC],
         mark,
-        serial: read_word(w[SERIAL]),
+        serial: w[SERIAL],
     }
 }

@@ -2,6 +2,8 @@
 #![tactic(auto)]
 
 pub mod end_cells;
+pub mod head;
+pub mod in_window;
 pub mod masters;
 pub mod readings;
 pub mod receivers;

@@ -1,13 +1,12 @@
 // A master section as the cells of its window, and the section that a window holds.
 ghost use Rattle.std.specs.Prelude.{◌≡◌, ◌+◌, ◌<◌, ◌≤◌, length};
 ghost use Rattle.master.specs.Side.{Within};
-ghost use Rattle.codec.specs.Masters.{section_word, master_head, master_from, enc_master, enc_next, addresses_in, switch_in, counter_in, section_of, dec_master, master_at};
-ghost use Rattle.codec.specs.Rings.{laid_from};
+ghost use Rattle.codec.specs.Masters.{section_word, master_head, master_from, enc_master, enc_next, addresses_in, switch_in, counter_in, section_of, dec_master};
 ghost use Rattle.codec.specs.Window.{window, splice};
-ghost use Rattle.silos.specs.Silo.{words};
+ghost use Rattle.std.proofs.Common.{rules};
 
-use crate::rings::{lay, length_in, start_for, start_in, start_next, unroll};
-use crate::windows::{put, take};
+use crate::in_window::InWindow;
+use crate::rings::{lay_silo, silo_of, start_for, start_next};
 use master::side::Master;
 use silos::Silo;
 use words::bits::{bit_at, bits_at};
@@ -60,63 +59,39 @@ fn head(start: u16, m: Master) -> [u16; ADDRESSES]
     [start + addresses.held * 64, section_sum(m)]
 }
 
-// The ring that stood there, with the addresses of a silo from a place on.
-fn ring_of(old: [u16; MASTER], silo: Silo, start: u16) -> [u16; 50]
-    requires { (start < 50) × (silo.held ≤ 50) }
-    ensures { result ≡ laid_from start (words silo) (window old 2 50) }
-{
-    let mut ring = [0u16; 50];
-    take(&mut ring, &old, ADDRESSES);
-    let words = silo.cells;
-    lay(&mut ring, &words, start as usize, silo.held as usize);
-    ring
-}
-
 // In the place of a window that stood there, the addresses from a place on.
-fn encode_from(start: u16, old: [u16; MASTER], m: Master) -> [u16; MASTER]
-    requires { (start < 50) × Within m }
-    ensures { result ≡ master_from start old m }
+fn encode_from(cells: &mut [u16], start: u16, m: Master)
+    requires whole { length cells.old ≡ 52 }
+    requires within { (start < 50) × Within m }
+    ensures { cells.new ≡ master_from start cells.old m }
 {
+    lay_silo(&mut cells[ADDRESSES..], m.addresses, start);
     let head = head(start, m);
-    let ring = ring_of(old, m.addresses, start);
-    let mut w = [0u16; MASTER];
-    put(&mut w, 0, &head);
-    put(&mut w, ADDRESSES, &ring);
-    w
-}
-
-fn encode(old: [u16; MASTER], m: Master) -> [u16; MASTER]
-    requires { Within m }
-    ensures { result ≡ enc_master old m }
-{
-    let addresses = m.addresses;
-    encode_from(start_for(50, old[RING], addresses.held), old, m)
+    cells[..ADDRESSES].copy_from_slice(&head);
 }
 
 // After a slice: in silo mode the oldest address was taken and came to the end.
-fn encode_next(old: [u16; MASTER], m: Master) -> [u16; MASTER]
-    requires { Within m }
-    ensures { result ≡ enc_next old m }
+fn encode_next(cells: &mut [u16], m: Master)
+    requires whole { length cells.old ≡ 52 }
+    requires within { Within m }
+    ensures { cells.new ≡ enc_next cells.old m }
 {
     if m.auto_address {
-        return encode(old, m);
+        m.encode(cells);
+        return;
     }
-    encode_from(start_next(50, old[RING]), old, m)
+    let start = start_next(50, cells[RING]);
+    encode_from(cells, start, m);
 }
 
 // ---- in
 
 // The addresses in order.
-fn addresses_in(w: [u16; MASTER]) -> Silo
-    ensures { result ≡ addresses_in w }
+fn addresses_in(cells: &[u16]) -> Silo
+    requires { length cells.now ≡ 52 }
+    ensures { result ≡ addresses_in cells.now }
 {
-    let start = start_in(50, w[RING]);
-    let held = length_in(50, w[RING]);
-    let mut ring = [0u16; 50];
-    take(&mut ring, &w, ADDRESSES);
-    let mut cells = [0u16; 64];
-    unroll(&mut cells, &ring, start as usize, held as usize);
-    Silo { cells, held }
+    silo_of::<50>(cells[RING], &cells[ADDRESSES..])
 }
 
 // At least 2.
@@ -155,31 +130,32 @@ fn section_of(addresses: Silo, word: u16) -> Master
     }
 }
 
-pub fn decode(w: [u16; MASTER]) -> Master
-    ensures { result ≡ dec_master w }
-{
-    section_of(addresses_in(w), w[SECTION])
-}
+impl InWindow for Master {
+    ghost PLACE = { 150 };
 
-// The section that the cells hold at `at`.
-pub fn load_master(cells: &[u16], at: usize) -> Master
-    requires { at + 52 ≤ length cells.now }
-    ensures { result ≡ master_at cells.now at }
-{
-    let mut w = [0u16; MASTER];
-    take(&mut w, cells, at);
-    decode(w)
-}
+    ghost SIZE = { 52 };
 
-// The section into the cells at `at`.
-pub fn store_master(cells: &mut [u16], at: usize, m: Master)
-    requires { (at + 52 ≤ length cells.old) × Within m }
-    ensures { cells.new ≡ splice cells.old at (enc_master (window cells.old at 52) m) }
-{
-    let mut old = [0u16; MASTER];
-    take(&mut old, cells, at);
-    let w = encode(old, m);
-    put(cells, at, &w);
+    ghost decoded = { dec_master };
+
+    ghost encoded = { enc_master };
+
+    ghost Within = { Within };
+
+    ghost inside = { Prim.search rules };
+
+    const PLACE: usize = 150;
+
+    const SIZE: usize = MASTER;
+
+    fn decode(cells: &[u16]) -> Self {
+        section_of(addresses_in(cells), cells[SECTION])
+    }
+
+    fn encode(self, cells: &mut [u16]) {
+        let addresses = self.addresses;
+        let start = start_for(50, cells[RING], addresses.held);
+        encode_from(cells, start, self);
+    }
 }
 
 // The section into the cells at `at`, after a slice.
@@ -187,8 +163,5 @@ pub fn store_next(cells: &mut [u16], at: usize, m: Master)
     requires { (at + 52 ≤ length cells.old) × Within m }
     ensures { cells.new ≡ splice cells.old at (enc_next (window cells.old at 52) m) }
 {
-    let mut old = [0u16; MASTER];
-    take(&mut old, cells, at);
-    let w = encode_next(old, m);
-    put(cells, at, &w);
+    encode_next(&mut cells[at..at + MASTER], m);
 }

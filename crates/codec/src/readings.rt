@@ -1,19 +1,9 @@
 // How a number is read that may stand outside the values it may take.
-ghost use Rattle.std.specs.Prelude.{◌≡◌, ◌%◌, ◌^◌, min};
+ghost use Rattle.std.specs.Prelude.{◌≡◌, min};
 
 // Above the most it may be, it is the most.
 pub fn read_most(number: u16, most: u16) -> u16
     ensures { result ≡ min most number }
 {
-    if number > most {
-        return most;
-    }
-    number
-}
-
-// A cell is a word: it is what it is.
-pub fn read_word(number: u16) -> u16
-    ensures { result ≡ number % 2 ^ 16 }
-{
-    number
+    number.min(most)
 }

@@ -1,8 +1,10 @@
-// A silo's words in a ring of cells, which goes round at its end. The two loops are proved once, for every size.
+// A silo's words in a ring of cells, which goes round at its end.
 ghost use Rattle.std.specs.Prelude.{◌++◌, ◌≡◌, ◌+◌, ◌-◌, ◌≤◌, ◌<◌, length, take, drop};
-ghost use Rattle.codec.specs.Rings.{around, round_from, start_in, length_in, start_for, start_next, laid_from};
+ghost use Rattle.silos.specs.Silo.{words};
+ghost use Rattle.codec.specs.Rings.{around, round_from, silo_of, start_in, length_in, start_for, start_next, laid_from};
 
 use crate::readings::read_most;
+use silos::Silo;
 
 // A place that lies past the last one goes round.
 pub fn go_around(size: usize, place: usize) -> usize
@@ -15,26 +17,24 @@ pub fn go_around(size: usize, place: usize) -> usize
     place - size
 }
 
-// The first `held` words from `start` on, in order.
+// The first `held` words from `start` on, in order: those up to the ring's end, and those from its beginning on.
 pub fn unroll(words: &mut [u16], ring: &[u16], start: usize, held: usize)
     requires { (start < length ring.now) × (held ≤ length ring.now) × (held ≤ length words.old) }
     ensures { words.new ≡ take held (round_from start ring.now) ++ drop held words.old }
 {
-    let size = ring.len();
-    for i in 0..held {
-        words[i] = ring[go_around(size, start + i)];
-    }
+    let first = held.min(ring.len() - start);
+    words[..first].copy_from_slice(&ring[start..start + first]);
+    words[first..held].copy_from_slice(&ring[..held - first]);
 }
 
-// The first `held` words into the ring from `start` on.
+// The first `held` words into the ring from `start` on: up to the ring's end, and from its beginning on.
 pub fn lay(ring: &mut [u16], words: &[u16], start: usize, held: usize)
     requires { (start < length ring.old) × (held ≤ length ring.old) × (held ≤ length words.now) }
     ensures { ring.new ≡ laid_from start (take held words.now) ring.old }
 {
-    let size = ring.len();
-    for i in 0..held {
-        ring[go_around(size, start + i)] = words[i];
-    }
+    let first = held.min(ring.len() - start);
+    ring[start..start + first].copy_from_slice(&words[..first]);
+    ring[..held - first].copy_from_slice(&words[first..held]);
 }
 
 // The start place that a silo's cell names.
@@ -50,16 +50,6 @@ pub fn length_in(size: u16, cell: u16) -> u16
     ensures { result ≡ length_in size cell }
 {
     read_most(cell / 64, size)
-}
-
-// How many are fewer.
-fn fewer(before: u16, now: u16) -> u16
-    ensures { result ≡ before - now }
-{
-    if before < now {
-        return 0;
-    }
-    before - now
 }
 
 // A start place so many words further on.
@@ -78,7 +68,7 @@ pub fn start_for(size: u16, cell: u16, held: u16) -> u16
     start_on(
         size,
         start_in(size, cell),
-        fewer(length_in(size, cell), held),
+        length_in(size, cell).saturating_sub(held),
     )
 }
 
@@ -88,4 +78,25 @@ pub fn start_next(size: u16, cell: u16) -> u16
     ensures { result ≡ start_next size cell }
 {
     start_on(size, start_in(size, cell), 1)
+}
+
+// The silo of a ring of N cells, of which another cell has the start place and the length.
+pub fn silo_of<const N: u16>(cell: u16, ring: &[u16]) -> Silo
+    requires size { (1 ≤ N) × (N ≤ 64) }
+    requires whole { length ring.now ≡ N }
+    ensures { result ≡ silo_of N cell ring.now }
+{
+    let start = start_in(N, cell);
+    let held = length_in(N, cell);
+    let mut cells = [0u16; 64];
+    unroll(&mut cells, ring, start as usize, held as usize);
+    Silo { cells, held }
+}
+
+// A silo's words into a ring from a place on.
+pub fn lay_silo(ring: &mut [u16], silo: Silo, start: u16)
+    requires { (start < length ring.old) × (silo.held ≤ length ring.old) × (silo.held ≤ 64) }
+    ensures { ring.new ≡ laid_from start (words silo) ring.old }
+{
+    lay(ring, &silo.cells, start as usize, silo.held as usize);
 }

@@ -5,31 +5,35 @@ ghost use Rattle.cells.specs.Layout.{unit_place};
 ghost use Rattle.fitting.specs.Fit.{fitted_as, units_fitted, fit};
 ghost use Rattle.fitting.specs.SetUp.{count_of, set_up_good};
 
-use crate::setup::{MEMORY, NUMBERS, RECEIVES_AS, SENDS_AS, SWITCH, number};
+use crate::setup::{NUMBERS, Numbers};
 use cells::index::fill_index;
 use cells::layout::{BLOCK, HEADER};
-use cells::sides::{put_master, put_receiver, put_transmitter};
+use cells::sides::put;
 use cells::units::{blank_unit, set_header, store_unit};
+use ends::sides::Side;
 use master::side::Master;
+use receiver::side::Receiver;
+use transmitter::side::Transmitter;
 
 // Whatever the block held is gone. The switch of the master section comes with the unit's own numbers. Both serials are 0.
-fn fit_unit(
-    cells: &mut [u16],
-    unit: usize,
-    transmitter: u16,
-    receiver: u16,
-    switch: u16,
-    memory: u32,
-)
+fn fit_unit(cells: &mut [u16], unit: usize, numbers: Numbers)
     requires fitted { Fitted cells.old unit }
-    requires le_transmitter { (1 ≤ transmitter) × (1 ≤ receiver) × (2 ≤ switch) × (switch < 32) × (1 ≤ memory) × (memory ≤ 131072) }
-    ensures { cells.new ≡ fitted_as cells.old unit transmitter receiver switch memory }
+    requires addresses { (1 ≤ numbers.transmitter) × (numbers.transmitter < 32) × (1 ≤ numbers.receiver) × (numbers.receiver < 32) }
+    requires switch { (2 ≤ numbers.switch) × (numbers.switch < 32) }
+    requires memory { (1 ≤ numbers.memory) × (numbers.memory ≤ 131072) }
+    ensures { cells.new ≡ fitted_as cells.old unit numbers.transmitter numbers.receiver numbers.switch numbers.memory }
 {
     blank_unit(cells, unit);
-    store_unit(cells, HEADER + unit * BLOCK, transmitter, receiver, memory);
-    put_transmitter(cells, unit, transmitter::side::start(0));
-    put_receiver(cells, unit, receiver::side::start(0));
-    put_master(cells, unit, Master::initial(switch));
+    store_unit(
+        cells,
+        HEADER + unit * BLOCK,
+        numbers.transmitter as u16,
+        numbers.receiver as u16,
+        numbers.memory,
+    );
+    put(cells, unit, Transmitter::start(0));
+    put(cells, unit, Receiver::start(0));
+    put(cells, unit, Master::initial(numbers.switch as u16));
 }
 
 fn fit_units(cells: &mut [u16], setup: &[u32])
@@ -38,11 +42,7 @@ fn fit_units(cells: &mut [u16], setup: &[u32])
     ensures { cells.new ≡ units_fitted (count_of setup.now) setup.now cells.old }
 {
     for unit in 0..setup.len() / NUMBERS {
-        let transmitter = number(setup, unit, SENDS_AS) as u16;
-        let receiver = number(setup, unit, RECEIVES_AS) as u16;
-        let switch = number(setup, unit, SWITCH) as u16;
-        let memory = number(setup, unit, MEMORY);
-        fit_unit(cells, unit, transmitter, receiver, switch, memory);
+        fit_unit(cells, unit, Numbers::of(setup, unit));
     }
 }
 

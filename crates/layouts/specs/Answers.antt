@@ -1,29 +1,25 @@
 -- "the answer": all that a call answers, the number and what comes with it. Document 01, The link, "Calls".
 -- Assumes nothing.
+use Rattle.std.specs.Prelude.{Result, Option, Bool, ℕ}
 use Rattle.pcl.specs.Calls.{read_call, write_call, byte_call, reset_call, period_call}
 use Rattle.pcl.specs.Link.{fit_call, slice_call}
 use Rattle.pcl.specs.Sides.{move_call, level_call, serial_call}
-use Rattle.pcl.specs.declared.answers.FitCall.{FitCall}
-use Rattle.pcl.specs.declared.answers.LevelCall.{LevelCall}
-use Rattle.pcl.specs.declared.answers.MoveCall.{MoveCall}
-use Rattle.pcl.specs.declared.answers.ReadCall.{ReadCall}
-use Rattle.pcl.specs.declared.answers.SerialCall.{SerialCall}
-use Rattle.pcl.specs.declared.answers.SliceCall.{SliceCall}
-use Rattle.pcl.specs.declared.answers.UnitCall.{UnitCall}
-use Rattle.pcl.specs.declared.answers.WriteCall.{WriteCall}
 use Rattle.promise.specs.World.{World, Event, fit, write, write_byte, read, slice, move, period, reset, level, serial, host_write}
+use Rattle.words.specs.declared.answers.Refusal.{Refusal}
+use Rattle.words.specs.declared.answers.Write.{Write}
+use Rattle.bus.specs.declared.slice.Given.{Given}
 
 pub data Answer : Type 0 where
-  to_fit : FitCall → Answer
+  to_fit : Result (Unit {0}) Refusal → Answer
   -- of a word or a byte
-  to_write : WriteCall → Answer
-  to_read : ReadCall → Answer
-  to_slice : SliceCall → Answer
-  to_move : MoveCall → Answer
+  to_write : Result Write Refusal → Answer
+  to_read : Result ℕ Refusal → Answer
+  to_slice : Result (Option Given) Refusal → Answer
+  to_move : Result (Option ℕ) Refusal → Answer
   -- to a period or a reset
-  to_unit : UnitCall → Answer
-  to_level : LevelCall → Answer
-  to_serial : SerialCall → Answer
+  to_unit : Result (Unit {0}) Refusal → Answer
+  to_level : Result Bool Refusal → Answer
+  to_serial : Result ℕ Refusal → Answer
   -- a host's own write in a memory is no call
   no_answer : Answer
 

@@ -1,7 +1,7 @@
 -- Silos that go round: three words come to each, the last of them behind the ring's end, and the oldest is taken. So the cells of the two
 -- layouts differ, and the next answers do not. The prover computes the runs.
 -- Assumes nothing.
-use Rattle.std.specs.Prelude.{List, [], ◌∷◌, ◌≡◌, refl, ℕ, ◌+◌, ◌*◌, ◌^◌, replicate, set}
+use Rattle.std.specs.Prelude.{List, [], ◌∷◌, ◌≡◌, refl, ℕ, ◌+◌, ◌*◌, ◌^◌, replicate, set, Ok}
 use Rattle.cells.specs.Fitted.{transmitter_cells, master_cells, unit_fitted}
 use Rattle.cells.specs.Index.{row}
 use Rattle.cells.specs.Layout.{transmitter_place, master_place}
@@ -12,10 +12,8 @@ use Rattle.codec.specs.Rings.{in_order, laid_from}
 use Rattle.codec.specs.Window.{cell, window}
 use Rattle.fitting.specs.Fit.{units_fitted}
 use Rattle.fitting.specs.SetUp.{taken_by, units_good}
-use Rattle.pcl.specs.declared.answers.ReadCall.{ReadCall}
 use Rattle.promise.specs.World.{World, Event, fit, write, write_byte, read, step, with_cells}
 use Rattle.words.specs.Bits.TCR
-use Rattle.words.specs.declared.answers.Read.{Read}
 use Rattle.layouts.specs.Answers.{Answer, to_read}
 use Rattle.layouts.specs.Layouts.{Layout, going_round, shifting}
 use Rattle.layouts.specs.Runs.{laid_in, run_in, answers_in}
@@ -71,7 +69,7 @@ abbrev next : Layout → List Answer
 next layout = answers_in layout (read 0 4 ∷ read 0 4 ∷ []) (left layout)
 
 abbrev nine_eleven : List Answer
-nine_eleven = to_read (ReadCall.Register (Read.Word 9)) ∷ to_read (ReadCall.Register (Read.Word 11)) ∷ []
+nine_eleven = to_read (Ok 9) ∷ to_read (Ok 11) ∷ []
 
 next_round : next going_round ≡ nine_eleven
 unfolding unit_fitted units_fitted taken_by units_good in_range row in_order laid_from

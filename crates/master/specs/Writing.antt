@@ -1,13 +1,14 @@
 -- Document 01, Registers: "TMMR write: high byte first (CLR ADR empties the address silo before AUT ADR is looked at); then the low
 -- byte, if included, is loaded as an address (mod 32), or dropped (6) if AUT ADR is clear, RD SILO set or 50 held."
 -- Assumes nothing.
-use Rattle.std.specs.Prelude.{Bool, true, false, not, ◌&&◌, ◌||◌, ℕ, ◌*◌, ◌%◌, ◌^◌}
+use Rattle.std.specs.Prelude.{Bool, true, false, not, ◌&&◌, ◌||◌, ℕ, ◌*◌, ◌%◌, ◌^◌, Result, Ok}
 use Rattle.laws.specs.Bits.{bit_at}
 use Rattle.laws.specs.Pick.{pick}
 use Rattle.silos.specs.Silo.{no_words, is_empty, has_room, put}
 use Rattle.silos.specs.declared.Silo.{Silo}
 use Rattle.words.specs.Bits.TMMR
 use Rattle.words.specs.declared.answers.Write.{Write}
+use Rattle.words.specs.declared.answers.Refusal.{Refusal}
 use Rattle.master.specs.Ring.{address, addresses_in, may_start}
 use Rattle.master.specs.Section.{has_master, master_written, rises}
 use Rattle.master.specs.Side.{with_addresses}
@@ -80,8 +81,8 @@ loaded m reading byte =
     (record { dropped = true; side = m })
 
 -- `NotStarted` is 5 and `Dropped` 6: "A TMMR write meeting both 5 and 6 answers 5."
-abbrev pub answer_of : Bool → Bool → Write
-answer_of refused dropped = pick refused Write.NotStarted (pick dropped Write.Dropped Write.Done)
+abbrev pub answer_of : Bool → Bool → Result Write Refusal
+answer_of refused dropped = pick refused (Ok Write.NotStarted) (pick dropped (Ok Write.Dropped) (Ok Write.Done))
 
 -- ---- a write of the word, and of either byte
 

@@ -9,13 +9,13 @@ use crate::ring::may_start;
 use crate::section::{has_master, write_master};
 use crate::side::{Master, Mastership};
 use silos::{ADDRESSES, Silo};
-use words::answers::Write;
+use words::answers::{Refusal, Write};
 use words::bits::{bit_at, set_at, tmmr};
 
 // What a write of TMMR is answered, and what it leaves.
 #[derive(Clone, Copy)]
 pub struct Written {
-    pub answer: Write,
+    pub answer: Result<Write, Refusal>,
     pub mastership: Mastership,
     pub side: Master,
 }
@@ -100,7 +100,7 @@ fn write_flags(m: Master, mastership: Mastership, word: u16) -> High
             secondary: bit_at(word, tmmr::SEC),
             now_master: bit_at(word, tmmr::NOW_MST),
             place,
-            switch: m.switch,
+            ..m
         },
     }
 }
@@ -109,8 +109,7 @@ fn write_flags(m: Master, mastership: Mastership, word: u16) -> High
 pub fn takes_address(m: Master, reading: bool) -> bool
     ensures { result ≡ takes_address m reading }
 {
-    let addresses = m.addresses;
-    m.auto_address & !reading & addresses.has_room(ADDRESSES)
+    m.auto_address & !reading & m.addresses.has_room(ADDRESSES)
 }
 
 // The low byte: an address, loaded or dropped.
@@ -118,12 +117,12 @@ fn load(m: Master, reading: bool, byte: u16) -> Low
     ensures { result ≡ loaded m reading byte }
 {
     if takes_address(m, reading) {
-        let addresses = m.addresses;
-        let mut side = m;
-        side.addresses = addresses.put(ADDRESSES, byte % 32);
         return Low {
             dropped: false,
-            side,
+            side: Master {
+                addresses: m.addresses.put(ADDRESSES, byte % 32),
+                ..m
+            },
         };
     }
     Low {
@@ -133,16 +132,16 @@ fn load(m: Master, reading: bool, byte: u16) -> Low
 }
 
 // A write that meets both 5 and 6 answers 5.
-fn answer_of(refused: bool, dropped: bool) -> Write
+fn answer_of(refused: bool, dropped: bool) -> Result<Write, Refusal>
     ensures { result ≡ answer_of refused dropped }
 {
     if refused {
-        return Write::NotStarted;
+        return Ok(Write::NotStarted);
     }
     if dropped {
-        return Write::Dropped;
+        return Ok(Write::Dropped);
     }
-    Write::Done
+    Ok(Write::Done)
 }
 
 impl Master {
@@ -217,14 +216,13 @@ fn tmmr_sum(
 fn tmmr_word(m: Master, mastership: Mastership, opened: bool, reading: bool) -> u16
     ensures { result ≡ tmmr_word m mastership opened reading }
 {
-    let addresses = m.addresses;
     tmmr_sum(
         m,
-        addresses.oldest() % 32,
+        m.addresses.oldest() % 32,
         has_master(mastership),
         opened,
         takes_address(m, reading),
-        !addresses.is_empty(),
+        !m.addresses.is_empty(),
     )
 }
 
@@ -232,18 +230,17 @@ fn tmmr_word(m: Master, mastership: Mastership, opened: bool, reading: bool) -> 
 pub fn removes(m: Master, reading: bool) -> bool
     ensures { result ≡ removes m reading }
 {
-    let addresses = m.addresses;
-    reading & m.auto_address & !addresses.is_empty()
+    reading & m.auto_address & !m.addresses.is_empty()
 }
 
 fn remove(m: Master, reading: bool) -> Master
     ensures { result ≡ removed m reading }
 {
     if removes(m, reading) {
-        let addresses = m.addresses;
-        let mut side = m;
-        side.addresses = addresses.take();
-        return side;
+        return Master {
+            addresses: m.addresses.take(),
+            ..m
+        };
     }
     m
 }

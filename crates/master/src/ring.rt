@@ -10,10 +10,9 @@ fn neighbours_differ(silo: Silo) -> bool
     requires { (1 ≤ silo.held) × Sized 50 silo }
     ensures { result ≡ differ (last_of (addresses_in silo)) (addresses_in silo) }
 {
-    let count = silo.count();
-    let mut previous = silo.word_at(count - 1) % 32;
-    for i in 0..count {
-        let address = silo.word_at(i) % 32;
+    let mut previous = silo.word_at(silo.count() - 1) % 32;
+    for word in silo.words() {
+        let address = word % 32;
         if address == previous {
             return false;
         }

@@ -16,11 +16,7 @@ pub struct Next {
 pub fn has_master(mastership: Mastership) -> bool
     ensures { result ≡ has_master mastership }
 {
-    match mastership {
-        Mastership::Nobody => false,
-        Mastership::Own => true,
-        Mastership::Other => false,
-    }
+    mastership == Mastership::Own
 }
 
 fn own_master(bit: bool) -> Mastership
@@ -69,19 +65,21 @@ impl Master {
     pub fn next_address(self) -> Next
         ensures { result ≡ next_of self }
     {
-        let mut side = self;
         if self.auto_address {
-            side.place = count_down(self.place, self.switch);
             return Next {
                 address: self.place,
-                side,
+                side: Master {
+                    place: count_down(self.place, self.switch),
+                    ..self
+                },
             };
         }
-        let addresses = self.addresses;
-        side.addresses = turn(addresses);
         Next {
-            address: addresses.oldest() % 32,
-            side,
+            address: self.addresses.oldest() % 32,
+            side: Master {
+                addresses: turn(self.addresses),
+                ..self
+            },
         }
     }
 
@@ -89,10 +87,11 @@ impl Master {
     pub fn take_over(self) -> Master
         ensures { result ≡ taken_over self }
     {
-        let mut side = self;
-        side.secondary = false;
-        side.now_master = true;
-        side.place = self.switch;
-        side
+        Master {
+            secondary: false,
+            now_master: true,
+            place: self.switch,
+            ..self
+        }
     }
 }

@@ -16,7 +16,7 @@ pub struct Master {
 }
 
 // Who has MASTER, seen from this unit. MASTER itself is held outside: at most one unit has it.
-#[derive(Clone, Copy)]
+#[derive(Clone, Copy, PartialEq, Eq, Debug)]
 pub enum Mastership {
     Nobody,
     Own,

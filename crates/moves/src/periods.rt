@@ -3,17 +3,18 @@ ghost use Rattle.std.specs.Prelude.{◌≡◌};
 ghost use Rattle.cells.specs.Fitted.{Fitted};
 ghost use Rattle.moves.specs.Periods.{transmitter_period, receiver_period, unit_period};
 
-use cells::sides::{put_receiver, put_transmitter, receiver_of, transmitter_of};
-use transmitter::side::is_busy;
+use cells::sides::{put, side};
+use ends::sides::Side;
+use receiver::side::Receiver;
+use transmitter::side::Transmitter;
 
 fn pass_at_transmitter(cells: &mut [u16], unit: usize)
     requires { Fitted cells.old unit }
     ensures { cells.new ≡ transmitter_period cells.old unit }
 {
-    let t = transmitter_of(cells, unit);
-    if is_busy(t) {
-        put_transmitter(cells, unit, transmitter::periods::pass_period(t));
-        return;
+    let t = side::<Transmitter>(cells, unit);
+    if t.is_busy() {
+        put(cells, unit, t.pass_period());
     }
 }
 
@@ -21,10 +22,9 @@ fn pass_at_receiver(cells: &mut [u16], unit: usize)
     requires { Fitted cells.old unit }
     ensures { cells.new ≡ receiver_period cells.old unit }
 {
-    let r = receiver_of(cells, unit);
+    let r = side::<Receiver>(cells, unit);
     if r.end.opened {
-        put_receiver(cells, unit, receiver::periods::pass_period(r));
-        return;
+        put(cells, unit, r.pass_period());
     }
 }
 

@@ -1,21 +1,17 @@
-// The serials of a fitted unit's sides. Nothing changes.
-ghost use Rattle.std.specs.Prelude.{◌≡◌};
-ghost use Rattle.cells.specs.Fitted.{Fitted, transmitter_of, receiver_of};
+// The serial of a side of a fitted unit. Nothing changes.
+ghost use Rattle.std.specs.Prelude.{◌≡◌, ◌+◌};
+ghost use Rattle.cells.specs.Fitted.{Fitted};
+ghost use Rattle.cells.specs.Layout.{unit_place};
+ghost use Rattle.codec.specs.Window.{window};
 
-use cells::sides::{receiver_of, transmitter_of};
+use cells::sides::side;
+use codec::in_window::InWindow;
+use ends::sides::Side;
 
-pub fn transmitter_serial(cells: &[u16], unit: usize) -> u16
+// Of its transmitter or its receiver.
+pub fn serial<S: InWindow + Side>(cells: &[u16], unit: usize) -> u16
     requires { Fitted cells.now unit }
-    ensures { result ≡ (transmitter_of cells.now unit).end.serial }
+    ensures { result ≡ (S.end_of (S.decoded (window cells.now (unit_place unit + S.PLACE) S.SIZE))).serial }
 {
-    let t = transmitter_of(cells, unit);
-    t.end.serial
-}
-
-pub fn receiver_serial(cells: &[u16], unit: usize) -> u16
-    requires { Fitted cells.now unit }
-    ensures { result ≡ (receiver_of cells.now unit).end.serial }
-{
-    let r = receiver_of(cells, unit);
-    r.end.serial
+    side::<S>(cells, unit).end().serial
 }

@@ -2,7 +2,7 @@
 -- the index or an address. (`channels` has it of every run of calls. A transfer is so many moves (`Transfers`); a level, a serial and who
 -- wants service are lent the cells to read alone.)
 -- Assumes nothing.
-use Rattle.std.specs.Prelude.{List, ◌≡◌, ℕ, ◌^◌, ◌<◌, eqb}
+use Rattle.std.specs.Prelude.{List, ◌≡◌, ℕ, ◌^◌, ◌<◌, eqb, Result}
 use Rattle.std.proofs.Common.{arith}
 use Rattle.cells.specs.Index.{Indexed}
 use Rattle.cells.specs.Layout.{count_in, entry_in, receiver_address, transmitter_address}
@@ -17,12 +17,12 @@ use Rattle.pcl.specs.Calls.{read_call, write_call, byte_call, reset_call, period
 use Rattle.pcl.specs.Link.{fit_call, slice_call}
 use Rattle.pcl.specs.Numbers.{fit_number}
 use Rattle.pcl.specs.Sides.{move_call}
-use Rattle.pcl.specs.declared.answers.FitCall.{FitCall}
 use Rattle.pcl.specs.Laws.Cases.{admitted_cases, fit_cases, slice_cases, move_cases}
 use Rattle.outcomes.specs.Laws.FitRanged.{room_indexed}
+use Rattle.words.specs.declared.answers.Refusal.{Refusal}
 
 -- "filled at fit", whatever was lent
-abbrev FitIndexed : FitCall × List ℕ → Type 0
+abbrev FitIndexed : Result (Unit {0}) Refusal × List ℕ → Type 0
 FitIndexed outcome = fit_number outcome.0 ≡ 0 → Indexed outcome.1
 
 pub fit_indexes : (cells setup : List ℕ) → FitIndexed (fit_call cells setup)

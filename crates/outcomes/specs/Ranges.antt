@@ -1,7 +1,7 @@
 -- "The ranges of 9 are proved to take in the unfitted state, what a fit answered 0 leaves, and what any call leaves from a state in them."
 -- A level leaves the state as it is: it is lent the cells to read alone.
 -- Assumes nothing.
-use Rattle.std.specs.Prelude.{true, List, ◌≡◌, ℕ, ◌^◌, ◌≤◌, ◌<◌, eqb, replicate}
+use Rattle.std.specs.Prelude.{true, List, ◌≡◌, ℕ, ◌^◌, ◌≤◌, ◌<◌, eqb, replicate, Result}
 use Rattle.std.proofs.Common.{arith}
 use Rattle.cells.specs.Laws.RangeLaws.{unfitted}
 use Rattle.cells.specs.Ranges.{in_range}
@@ -14,16 +14,16 @@ use Rattle.pcl.specs.Calls.{read_call, write_call, byte_call, reset_call, period
 use Rattle.pcl.specs.Link.{fit_call, slice_call}
 use Rattle.pcl.specs.Numbers.{fit_number}
 use Rattle.pcl.specs.Sides.{move_call}
-use Rattle.pcl.specs.declared.answers.FitCall.{FitCall}
 use Rattle.pcl.specs.Laws.Cases.{admitted_cases, fit_cases, slice_cases, move_cases}
 use Rattle.outcomes.specs.Laws.FitRanged.{room_ranged}
+use Rattle.words.specs.declared.answers.Refusal.{Refusal}
 
 -- the unfitted state is all zero
 pub unfitted_ranged : (n : ℕ) → 66 ≤ n → in_range (replicate n 0) ≡ true
 unfitted_ranged = unfitted
 
 -- "what a fit answered 0 leaves", whatever was lent
-abbrev FitRanged : FitCall × List ℕ → Type 0
+abbrev FitRanged : Result (Unit {0}) Refusal × List ℕ → Type 0
 FitRanged outcome = fit_number outcome.0 ≡ 0 → in_range outcome.1 ≡ true
 
 pub fit_ranges : (cells setup : List ℕ) → FitRanged (fit_call cells setup)

@@ -1,20 +1,19 @@
 -- A whole transfer is so many single move calls, one after the other, each lent what the one before left: "moves until 4, or until a move sets
 -- NXL, BC OFL or memory overflow; the count of words moved .., the missing address after No. 3". Of every transfer call, whatever it is lent.
 -- Assumes nothing.
-use Rattle.std.specs.Prelude.{List, ◌≡◌, eqb, ltb}
+use Rattle.std.specs.Prelude.{List, ◌≡◌, eqb, ltb, Result, Option}
 use Prim.Native.Nat.{ℕ, zero, suc, ◌+◌, ◌<◌}
 use Rattle.cells.specs.Fitted.{transmitter_of, receiver_of}
-use Rattle.codec.specs.Window.{cell}
 use Rattle.laws.specs.Pick.{pick}
 use Rattle.pcl.specs.Numbers.{move_call_number, move_call_value, transfer_number, transfer_value, missing_in, words_moved_in}
 use Rattle.pcl.specs.Sides.{move_call}
-use Rattle.pcl.specs.declared.answers.MoveCall.{MoveCall}
-use Rattle.pcl.specs.declared.answers.TransferCall.{TransferCall}
 use Rattle.service.specs.Transfers.{Lent, lent}
 use Rattle.silos.specs.Silo.{count}
+use Rattle.words.specs.declared.answers.Refusal.{Refusal}
+use Rattle.service.specs.declared.transfers.Transfer.{Transfer}
 
 -- a single move call
-abbrev pub called : ℕ → ℕ → Lent → MoveCall × Lent
+abbrev pub called : ℕ → ℕ → Lent → Result (Option ℕ) Refusal × Lent
 called unit side l = let o = move_call l.cells l.memory unit side in (o.0, lent o.1 o.2)
 
 -- what so many of them leave
@@ -29,7 +28,7 @@ number_after unit side n l = move_call_number (called unit side (after_calls uni
 abbrev pub value_after : ℕ → ℕ → ℕ → Lent → ℕ
 value_after unit side n l = move_call_value (called unit side (after_calls unit side n l)).0
 
-pub record SoManyMoves (cells memory : List ℕ) (unit side : ℕ) (outcome : TransferCall × List ℕ × List ℕ) : Type 0 where
+pub record SoManyMoves (cells memory : List ℕ) (unit side : ℕ) (outcome : Result Transfer Refusal × List ℕ × List ℕ) : Type 0 where
   -- so many move calls leave every cell and every word of the memory as the transfer does
   pub moves : ℕ
   pub same : lent outcome.1 outcome.2 ≡ after_calls unit side moves (lent cells memory)

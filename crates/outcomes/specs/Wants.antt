@@ -1,7 +1,7 @@
 -- What each bit of who wants service says: exactly what the move call or the level call at its side would answer. Of every state in range, and
 -- of each of the 32 bits: "bit u the transmitter of unit u, bit 16 + u its receiver".
 -- Assumes nothing.
-use Rattle.std.specs.Prelude.{Bool, true, false, not, ◌&&◌, List, ◌≡◌, refl, ℕ, ◌+◌, ◌^◌, ◌≤◌, ◌<◌, ltb, length}
+use Rattle.std.specs.Prelude.{Bool, true, false, not, ◌&&◌, List, ◌≡◌, refl, ℕ, ◌+◌, ◌^◌, ◌≤◌, ◌<◌, ltb, length, Result, Ok, Err, Option}
 use Rattle.std.proofs.Common.{true≢false, ap, sym, ◌∙◌, le-leb, le-ltb, lt-ltb, ltb-false, ltb-true}
 use Rattle.std.proofs.lemmas.Bool.{lt-leb}
 use Rattle.cells.specs.Fitted.{transmitter_of, receiver_of}
@@ -11,12 +11,10 @@ use Rattle.cells.specs.Laws.RangeLaws.{in_range_says}
 use Rattle.laws.specs.Bits.{bit, bit_at}
 use Rattle.laws.specs.Pick.{pick, by, past as pass, here as stop}
 use Rattle.moves.specs.Moving.{transmitter_moved, receiver_moved}
-use Rattle.moves.specs.Laws.Nothing.{has_moved, transmitter_answers, receiver_answers, transmitter_may_not, receiver_may_not}
+use Rattle.moves.specs.Laws.Nothing.{has_moved, transmitter_answers, receiver_answers, transmitter_may_not, receiver_may_not, transmitter_stays, receiver_stays}
 use Rattle.pcl.specs.Numbers.{move_call_number, level_value, wants_value}
 use Rattle.pcl.specs.Service.{wants_moves_call, wants_interrupts_call}
 use Rattle.pcl.specs.Sides.{move_call, level_call}
-use Rattle.pcl.specs.declared.answers.MoveCall.{MoveCall}
-use Rattle.pcl.specs.declared.answers.WantsCall.{WantsCall}
 use Rattle.receiver.specs.Moves as RM
 use Rattle.receiver.specs.Requests as RR
 use Rattle.service.specs.Wants.{moves_wanted, interrupts_wanted}
@@ -25,7 +23,7 @@ use Rattle.transmitter.specs.Moves as TM
 use Rattle.transmitter.specs.Requests as TR
 use Rattle.transmitter.specs.declared.side.Transmitter.{Transmitter}
 use Rattle.words.specs.Answers.{move_number}
-use Rattle.words.specs.declared.answers.Move.{Move}
+use Rattle.words.specs.declared.answers.Refusal.{Refusal}
 use Rattle.outcomes.specs.Laws.MoveCalls.{sender_call, receiver_call}
 
 -- ---- what is said
@@ -51,10 +49,12 @@ pub record SaysInterrupts (cells : List ℕ) (mask unit : ℕ) : Type 0 where
 
 -- ---- and proved
 
-number_of : (m : Move) → move_number m ≡ pick (has_moved m) 0 4
-number_of Move.Done = refl
-number_of (Move.Missing address) = refl
-number_of Move.Nothing = refl
+moved_0 : (m : Result (Option ℕ) Refusal) → has_moved m ≡ true → move_number m ≡ 0
+moved_0 (Ok missing) e = refl
+moved_0 (Err refusal) e = absurd (true≢false (sym e))
+
+number_of : (m : Result (Option ℕ) Refusal) → (has_moved m ≡ false → m ≡ Err Refusal.Nothing) → move_number m ≡ pick (has_moved m) 0 4
+number_of m none = by (has_moved m) (λ e. moved_0 m e ∙ ap (λ (b : Bool). pick b 0 4) (sym e)) (λ e. ap move_number (none e) ∙ ap (λ (b : Bool). pick b 0 4) (sym e))
 
 -- 4 is answered where a side may not move, and only there
 module _ (cells memory : List ℕ) (unit : ℕ) where
@@ -83,15 +83,25 @@ module _ (cells memory : List ℕ) (unit : ℕ) where
       (sym (receiver_may_not (receiver_of cells unit) memory (memory_length cells unit) (ap has_moved (sym (receiver_answers cells memory unit)) ∙ e)) ∙ ap not may))))
       (λ none. rw none)
 
+  sent_number : move_number (transmitter_moved cells memory unit).0 ≡ pick (has_moved (transmitter_moved cells memory unit).0) 0 4
+  sent_number =
+      number_of (transmitter_moved cells memory unit).0
+      (λ e. ap (λ (p : Result (Option ℕ) Refusal × List ℕ). p.0) (transmitter_stays cells memory unit (ap has_moved (sym (transmitter_answers cells memory unit)) ∙ e)))
+
+  received_number : move_number (receiver_moved cells memory unit).0 ≡ pick (has_moved (receiver_moved cells memory unit).0) 0 4
+  received_number =
+      number_of (receiver_moved cells memory unit).0
+      (λ e. ap (λ (p : Result (Option ℕ) Refusal × List ℕ × List ℕ). p.0) (receiver_stays cells memory unit (ap has_moved (sym (receiver_answers cells memory unit)) ∙ e)))
+
 module _ (cells : List ℕ) (ok : in_range cells ≡ true) (unit : ℕ) (h : unit < 16) where
   few : count_in cells ≤ 16
   few = (in_range_says cells ok).most
 
   moves_mask : wants_value (wants_moves_call cells) ≡ moves_wanted cells
-  moves_mask = ap wants_value (sym (pass WantsCall.BadState (ap not ok) refl))
+  moves_mask = ap wants_value (sym (pass (Err Refusal.BadState) (ap not ok) refl))
 
   interrupts_mask : wants_value (wants_interrupts_call cells) ≡ interrupts_wanted cells
-  interrupts_mask = ap wants_value (sym (pass WantsCall.BadState (ap not ok) refl))
+  interrupts_mask = ap wants_value (sym (pass (Err Refusal.BadState) (ap not ok) refl))
 
   pub moves_say : SaysMoves cells (wants_value (wants_moves_call cells)) unit
   moves_say =
@@ -103,12 +113,12 @@ module _ (cells : List ℕ) (ok : in_range cells ≡ true) (unit : ℕ) (h : uni
       ap (λ (m : ℕ). bit_at m (16 + unit)) moves_mask ∙ high in
       record {
         transmitter = λ there memory lent.
-            ap (λ (o : MoveCall × List ℕ × List ℕ). move_call_number o.0) (sender_call cells ok memory unit there lent)
-            ∙ number_of (transmitter_moved cells memory unit).0
+            ap (λ (o : Result (Option ℕ) Refusal × List ℕ × List ℕ). move_call_number o.0) (sender_call cells ok memory unit there lent)
+            ∙ sent_number cells memory unit
             ∙ ap (λ (b : Bool). pick b 0 4) (sent_4 cells memory unit ∙ sym (here ∙ ap (λ (b : Bool). b && TM.may_move (transmitter_of cells unit)) (lt-ltb unit (count_in cells) there)));
         receiver = λ there memory lent.
-            ap (λ (o : MoveCall × List ℕ × List ℕ). move_call_number o.0) (receiver_call cells ok memory unit there lent)
-            ∙ number_of (receiver_moved cells memory unit).0
+            ap (λ (o : Result (Option ℕ) Refusal × List ℕ × List ℕ). move_call_number o.0) (receiver_call cells ok memory unit there lent)
+            ∙ received_number cells memory unit
             ∙ ap (λ (b : Bool). pick b 0 4) (received_4 cells memory unit ∙ sym (above ∙ ap (λ (b : Bool). b && RM.may_move (receiver_of cells unit)) (lt-ltb unit (count_in cells) there)));
         none = λ absent.
             let past_all = le-ltb unit (count_in cells) absent in
@@ -117,7 +127,7 @@ module _ (cells : List ℕ) (ok : in_range cells ≡ true) (unit : ℕ) (h : uni
 
   pub short_is_refused : ShortIsRefused cells unit
   short_is_refused there memory less side =
-      ap (λ (o : MoveCall × List ℕ × List ℕ). move_call_number o.0)
+      ap (λ (o : Result (Option ℕ) Refusal × List ℕ × List ℕ). move_call_number o.0)
       (sym (pass _ (ap not ok) (pass _ (lt-leb (count_in cells) unit there) (stop _ (lt-ltb (length memory) (memory_length cells unit) less) refl))))
 
   pub interrupts_say : SaysInterrupts cells (wants_value (wants_interrupts_call cells)) unit

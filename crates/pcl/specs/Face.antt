@@ -1,13 +1,13 @@
 -- The calls as C has them: the packed number, every cell, and for a move and a transfer every word of the memory.
 -- Assumes nothing.
-use Rattle.std.specs.Prelude.{List, ℕ}
+use Rattle.std.specs.Prelude.{List, ℕ, Result, Option}
 use Rattle.pcl.specs.Calls.{read_call, write_call, byte_call, reset_call, period_call}
 use Rattle.pcl.specs.Link.{fit_call, slice_call}
 use Rattle.pcl.specs.Numbers.{read_packed, write_call_number, done_number, fit_number, slice_packed, move_packed, level_packed, serial_packed, wants_packed, transfer_packed}
 use Rattle.pcl.specs.Service.{wants_moves_call, wants_interrupts_call, transfer_call}
 use Rattle.pcl.specs.Sides.{move_call, level_call, serial_call}
-use Rattle.pcl.specs.declared.answers.MoveCall.{MoveCall}
-use Rattle.pcl.specs.declared.answers.TransferCall.{TransferCall}
+use Rattle.words.specs.declared.answers.Refusal.{Refusal}
+use Rattle.service.specs.declared.transfers.Transfer.{Transfer}
 
 abbrev pub packed : {A : Type 0} → (A → ℕ) → A × List ℕ → ℕ × List ℕ
 packed number p = (number p.0, p.1)
@@ -33,7 +33,7 @@ fit_face cells setup = packed fit_number (fit_call cells setup)
 abbrev pub slice_face : List ℕ → ℕ → ℕ → ℕ × List ℕ
 slice_face cells mask parity = packed slice_packed (slice_call cells mask parity)
 
-abbrev pub packed_move : MoveCall × List ℕ × List ℕ → ℕ × List ℕ × List ℕ
+abbrev pub packed_move : Result (Option ℕ) Refusal × List ℕ × List ℕ → ℕ × List ℕ × List ℕ
 packed_move p = (move_packed p.0, p.1, p.2)
 
 abbrev pub move_face : List ℕ → List ℕ → ℕ → ℕ → ℕ × List ℕ × List ℕ
@@ -53,7 +53,7 @@ wants_moves_face cells = wants_packed (wants_moves_call cells)
 abbrev pub wants_interrupts_face : List ℕ → ℕ
 wants_interrupts_face cells = wants_packed (wants_interrupts_call cells)
 
-abbrev pub packed_transfer : TransferCall × List ℕ × List ℕ → ℕ × List ℕ × List ℕ
+abbrev pub packed_transfer : Result Transfer Refusal × List ℕ × List ℕ → ℕ × List ℕ × List ℕ
 packed_transfer p = (transfer_packed p.0, p.1, p.2)
 
 abbrev pub transfer_face : List ℕ → List ℕ → ℕ → ℕ → ℕ × List ℕ × List ℕ

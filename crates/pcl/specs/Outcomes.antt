@@ -3,62 +3,56 @@
 -- An outcome is the answer, the cells as they are left, and for a move and a transfer the memory as it is left. What is lent to be read
 -- alone, a set-up and the cells of a level, of a serial or of who wants service, stays as it was.
 -- Assumes nothing.
-use Rattle.std.specs.Prelude.{List, ◌≡◌, ℕ}
+use Rattle.std.specs.Prelude.{List, ◌≡◌, ℕ, Result, Option, Bool}
 use Rattle.pcl.specs.Calls.{read_call, write_call, byte_call, reset_call, period_call}
 use Rattle.pcl.specs.Face.{fit_face, slice_face, read_face, write_face, byte_face, reset_face, period_face, move_face, level_face, serial_face, wants_moves_face, wants_interrupts_face, transfer_face}
 use Rattle.pcl.specs.Link.{fit_call, slice_call}
 use Rattle.pcl.specs.Service.{wants_moves_call, wants_interrupts_call, transfer_call}
 use Rattle.pcl.specs.Sides.{move_call, level_call, serial_call}
-use Rattle.pcl.specs.declared.answers.FitCall.{FitCall}
-use Rattle.pcl.specs.declared.answers.LevelCall.{LevelCall}
-use Rattle.pcl.specs.declared.answers.MoveCall.{MoveCall}
-use Rattle.pcl.specs.declared.answers.ReadCall.{ReadCall}
-use Rattle.pcl.specs.declared.answers.SerialCall.{SerialCall}
-use Rattle.pcl.specs.declared.answers.SliceCall.{SliceCall}
-use Rattle.pcl.specs.declared.answers.TransferCall.{TransferCall}
-use Rattle.pcl.specs.declared.answers.UnitCall.{UnitCall}
-use Rattle.pcl.specs.declared.answers.WantsCall.{WantsCall}
-use Rattle.pcl.specs.declared.answers.WriteCall.{WriteCall}
+use Rattle.words.specs.declared.answers.Refusal.{Refusal}
+use Rattle.words.specs.declared.answers.Write.{Write}
+use Rattle.bus.specs.declared.slice.Given.{Given}
+use Rattle.service.specs.declared.transfers.Transfer.{Transfer}
 
 -- ---- for Rattle
 
-abbrev pub FitOutcome : List ℕ → List ℕ → FitCall × List ℕ → Type 0
+abbrev pub FitOutcome : List ℕ → List ℕ → Result (Unit {0}) Refusal × List ℕ → Type 0
 FitOutcome cells setup outcome = outcome ≡ fit_call cells setup
 
-abbrev pub SliceOutcome : List ℕ → ℕ → ℕ → SliceCall × List ℕ → Type 0
+abbrev pub SliceOutcome : List ℕ → ℕ → ℕ → Result (Option Given) Refusal × List ℕ → Type 0
 SliceOutcome cells mask parity outcome = outcome ≡ slice_call cells mask parity
 
-abbrev pub ReadOutcome : List ℕ → ℕ → ℕ → ReadCall × List ℕ → Type 0
+abbrev pub ReadOutcome : List ℕ → ℕ → ℕ → Result ℕ Refusal × List ℕ → Type 0
 ReadOutcome cells unit offset outcome = outcome ≡ read_call cells unit offset
 
-abbrev pub WriteOutcome : List ℕ → ℕ → ℕ → ℕ → WriteCall × List ℕ → Type 0
+abbrev pub WriteOutcome : List ℕ → ℕ → ℕ → ℕ → Result Write Refusal × List ℕ → Type 0
 WriteOutcome cells unit offset word outcome = outcome ≡ write_call cells unit offset word
 
-abbrev pub ByteOutcome : List ℕ → ℕ → ℕ → ℕ → WriteCall × List ℕ → Type 0
+abbrev pub ByteOutcome : List ℕ → ℕ → ℕ → ℕ → Result Write Refusal × List ℕ → Type 0
 ByteOutcome cells unit offset byte outcome = outcome ≡ byte_call cells unit offset byte
 
-abbrev pub ResetOutcome : List ℕ → ℕ → UnitCall × List ℕ → Type 0
+abbrev pub ResetOutcome : List ℕ → ℕ → Result (Unit {0}) Refusal × List ℕ → Type 0
 ResetOutcome cells unit outcome = outcome ≡ reset_call cells unit
 
-abbrev pub PeriodOutcome : List ℕ → ℕ → UnitCall × List ℕ → Type 0
+abbrev pub PeriodOutcome : List ℕ → ℕ → Result (Unit {0}) Refusal × List ℕ → Type 0
 PeriodOutcome cells unit outcome = outcome ≡ period_call cells unit
 
-abbrev pub MoveOutcome : List ℕ → List ℕ → ℕ → ℕ → MoveCall × List ℕ × List ℕ → Type 0
+abbrev pub MoveOutcome : List ℕ → List ℕ → ℕ → ℕ → Result (Option ℕ) Refusal × List ℕ × List ℕ → Type 0
 MoveOutcome cells memory unit side outcome = outcome ≡ move_call cells memory unit side
 
-abbrev pub LevelOutcome : List ℕ → ℕ → ℕ → LevelCall → Type 0
+abbrev pub LevelOutcome : List ℕ → ℕ → ℕ → Result Bool Refusal → Type 0
 LevelOutcome cells unit side outcome = outcome ≡ level_call cells unit side
 
-abbrev pub SerialOutcome : List ℕ → ℕ → ℕ → SerialCall → Type 0
+abbrev pub SerialOutcome : List ℕ → ℕ → ℕ → Result ℕ Refusal → Type 0
 SerialOutcome cells unit side outcome = outcome ≡ serial_call cells unit side
 
-abbrev pub WantsMovesOutcome : List ℕ → WantsCall → Type 0
+abbrev pub WantsMovesOutcome : List ℕ → Result ℕ Refusal → Type 0
 WantsMovesOutcome cells outcome = outcome ≡ wants_moves_call cells
 
-abbrev pub WantsInterruptsOutcome : List ℕ → WantsCall → Type 0
+abbrev pub WantsInterruptsOutcome : List ℕ → Result ℕ Refusal → Type 0
 WantsInterruptsOutcome cells outcome = outcome ≡ wants_interrupts_call cells
 
-abbrev pub TransferOutcome : List ℕ → List ℕ → ℕ → ℕ → TransferCall × List ℕ × List ℕ → Type 0
+abbrev pub TransferOutcome : List ℕ → List ℕ → ℕ → ℕ → Result Transfer Refusal × List ℕ × List ℕ → Type 0
 TransferOutcome cells memory unit side outcome = outcome ≡ transfer_call cells memory unit side
 
 -- ---- for C: the packed number

@@ -1,176 +1,231 @@
-// The plain number that C gets: document 01's number below, the value above it. It has 64 bits where the value has more than 16.
-ghost use Rattle.std.specs.Prelude.{◌≡◌};
-ghost use Rattle.pcl.specs.Numbers.{read_packed, write_call_number, done_number, fit_number, move_packed, level_packed, serial_packed, slice_packed, wants_packed, transfer_packed};
-ghost use Rattle.pcl.specs.Laws.Narrow.{Narrow, NarrowSlot, NarrowCall};
-ghost use Rattle.pcl.specs.Laws.Packed.{found_packed, moved_packed, given_packed, slot_packed, transferred_packed};
-ghost use Rattle.words.specs.Answers.{write_number};
+// The plain number that C gets for a call's answer: document 01's number below, the value above it.
+ghost use Rattle.std.specs.Prelude.{◌≡◌, ◌+◌, ◌*◌, ◌<◌, ◌≤◌, ◌^◌, Result, Ok, Err, refl, ℕ};
+ghost use Rattle.std.proofs.Common.{rules};
+ghost use Rattle.words.specs.declared.answers.Refusal.{Refusal};
+ghost use Rattle.pcl.specs.Numbers.{read_call_number, read_call_word, write_call_number, no_value, done_number, level_number, level_value, wants_number, wants_value, move_call_number, move_call_value, slice_number, slice_value, transfer_number, transfer_value};
 
-use crate::answers::{
-    FitCall, LevelCall, MoveCall, ReadCall, SerialCall, SliceCall, TransferCall, UnitCall,
-    WantsCall, WriteCall,
-};
-use bus::slice::{Given, Slot};
+use bus::slice::Given;
 use service::transfers::Transfer;
-use words::answers::{Move, Read, Write};
+use words::answers::{Refusal, Write};
 
-fn pack_found(read: Read) -> u32
-    ensures { result ≡ found_packed read }
-{
-    match read {
-        Read::Word(word) => word as u32 * 65536,
-        Read::NoRegister => 2,
-        Read::Nothing => 4,
+// What a call answers where it is not refused. C gets a number for it, and a value above the number.
+pub trait Value: Copy {
+    ghost use Rattle.std.specs.Prelude.{◌≡◌, ◌<◌, ◌≤◌, ◌^◌, Result, Ok, Err, ℕ};
+    ghost use Rattle.words.specs.Answers.{number_of};
+    ghost use Rattle.words.specs.declared.answers.Refusal.{Refusal};
+
+    // the number and the value of an answer, which may be a refusal, and a limit of the value
+    ghost number_in: { Result Self Refusal → ℕ };
+
+    ghost value_in: { Result Self Refusal → ℕ };
+
+    ghost limit: { ℕ };
+
+    // 0, or the number of an answer that leaves a part out.
+    fn number(self) -> u64
+        ensures number { result ≡ number_in (Ok self) }
+        ensures low { result < 2 ^ 16 };
+
+    // The value, 0 where there is none.
+    fn value(self) -> u64
+        ensures value { result ≡ value_in (Ok self) }
+        ensures below { result < limit };
+
+    // a refusal has its own number, and no value
+    ghost refused: { (refusal : Refusal) → (number_in (Err refusal) ≡ number_of refusal) × (value_in (Err refusal) ≡ 0) };
+
+    // the value has room above the number
+    ghost room: { (1 ≤ limit) × (limit ≤ 2 ^ 48) };
+}
+
+impl Value for () {
+    ghost number_in = { done_number };
+
+    ghost value_in = { no_value };
+
+    ghost limit = { 2 ^ 16 };
+
+    ghost refused = { λ refusal. (refl, refl) };
+
+    ghost room = { Prim.search rules };
+
+    fn number(self) -> u64 {
+        0
+    }
+
+    fn value(self) -> u64 {
+        0
     }
 }
 
-pub fn pack_read(call: ReadCall) -> u32
-    ensures { result ≡ read_packed call }
-{
-    match call {
-        ReadCall::BadState => 9,
-        ReadCall::NoUnit => 1,
-        ReadCall::Register(read) => pack_found(read),
+impl Value for Write {
+    ghost number_in = { write_call_number };
+
+    ghost value_in = { no_value };
+
+    ghost limit = { 2 ^ 16 };
+
+    ghost refused = { λ refusal. (refl, refl) };
+
+    ghost room = { Prim.search rules };
+
+    fn number(self) -> u64 {
+        match self {
+            Write::Done => 0,
+            Write::NotStarted => 5,
+            Write::Dropped => 6,
+        }
+    }
+
+    fn value(self) -> u64 {
+        0
     }
 }
 
-fn number_written(write: Write) -> u32
-    ensures { result ≡ write_number write }
-{
-    match write {
-        Write::Done => 0,
-        Write::NoRegister => 2,
-        Write::ByteRefused => 3,
-        Write::NotStarted => 5,
-        Write::Dropped => 6,
+impl Value for u16 {
+    ghost number_in = { read_call_number };
+
+    ghost value_in = { read_call_word };
+
+    ghost limit = { 2 ^ 16 };
+
+    ghost refused = { λ refusal. (refl, refl) };
+
+    ghost room = { Prim.search rules };
+
+    fn number(self) -> u64 {
+        0
+    }
+
+    fn value(self) -> u64 {
+        self as u64
     }
 }
 
-pub fn pack_write(call: WriteCall) -> u32
-    ensures { result ≡ write_call_number call }
-{
-    match call {
-        WriteCall::BadState => 9,
-        WriteCall::NoUnit => 1,
-        WriteCall::Register(write) => number_written(write),
+impl Value for bool {
+    ghost number_in = { level_number };
+
+    ghost value_in = { level_value };
+
+    ghost limit = { 2 ^ 16 };
+
+    ghost refused = { λ refusal. (refl, refl) };
+
+    ghost room = { Prim.search rules };
+
+    fn number(self) -> u64 {
+        0
+    }
+
+    fn value(self) -> u64 {
+        self as u64
     }
 }
 
-pub fn pack_done(call: UnitCall) -> u32
-    ensures { result ≡ done_number call }
-{
-    match call {
-        UnitCall::BadState => 9,
-        UnitCall::NoUnit => 1,
-        UnitCall::Done => 0,
+// A mask of 32 bits.
+impl Value for u32 {
+    ghost number_in = { wants_number };
+
+    ghost value_in = { wants_value };
+
+    ghost limit = { 2 ^ 32 };
+
+    ghost refused = { λ refusal. (refl, refl) };
+
+    ghost room = { Prim.search rules };
+
+    fn number(self) -> u64 {
+        0
+    }
+
+    fn value(self) -> u64 {
+        self as u64
     }
 }
 
-pub fn pack_fit(call: FitCall) -> u32
-    ensures { result ≡ fit_number call }
-{
-    match call {
-        FitCall::NoRoom => 9,
-        FitCall::BadSetUp => 7,
-        FitCall::Done => 0,
+// The address that a move missed.
+impl Value for Option<u32> {
+    ghost number_in = { move_call_number };
+
+    ghost value_in = { move_call_value };
+
+    ghost limit = { 2 ^ 32 };
+
+    ghost refused = { λ refusal. (refl, refl) };
+
+    ghost room = { Prim.search rules };
+
+    fn number(self) -> u64 {
+        0
+    }
+
+    fn value(self) -> u64 {
+        match self {
+            Some(address) => address as u64,
+            None => 0,
+        }
     }
 }
 
-fn pack_moved(answer: Move) -> u64
-    ensures { result ≡ moved_packed answer }
+// What a slice gave, and 8 where there is no master.
+impl Value for Option<Given> {
+    ghost number_in = { slice_number };
+
+    ghost value_in = { slice_value };
+
+    ghost limit = { 2 ^ 24 };
+
+    ghost refused = { λ refusal. (refl, refl) };
+
+    ghost room = { Prim.search rules };
+
+    fn number(self) -> u64 {
+        match self {
+            Some(_) => 0,
+            None => 8,
+        }
+    }
+
+    // The address takes 5 bits, A and B 2 each.
+    fn value(self) -> u64 {
+        match self {
+            Some(given) => {
+                let codes = given.codes;
+                given.address as u64 + codes.a as u64 * 32 + codes.b as u64 * 128
+            }
+            None => 0,
+        }
+    }
+}
+
+// The address that a transfer missed takes 18 bits, and the count of words stands above it.
+impl Value for Transfer {
+    ghost number_in = { transfer_number };
+
+    ghost value_in = { transfer_value };
+
+    ghost limit = { 2 ^ 36 };
+
+    ghost refused = { λ refusal. (refl, refl) };
+
+    ghost room = { Prim.search rules };
+
+    fn number(self) -> u64 {
+        0
+    }
+
+    fn value(self) -> u64 {
+        self.missing.unwrap_or(0) as u64 + self.words as u64 * 262144
+    }
+}
+
+// The number that C gets for an answer: in 64 bits, which are 32 where the value has 16.
+pub fn pack<V: Value>(answer: Result<V, Refusal>) -> u64
+    ensures number { result ≡ V.number_in answer + V.value_in answer * 65536 }
+    ensures below { result < V.limit * 65536 }
 {
     match answer {
-        Move::Done => 0,
-        Move::Missing(address) => address as u64 * 65536,
-        Move::Nothing => 4,
-    }
-}
-
-pub fn pack_move(call: MoveCall) -> u64
-    ensures { result ≡ move_packed call }
-{
-    match call {
-        MoveCall::BadState => 9,
-        MoveCall::NoUnit => 1,
-        MoveCall::Side(answer) => pack_moved(answer),
-    }
-}
-
-pub fn pack_level(call: LevelCall) -> u32
-    ensures { result ≡ level_packed call }
-{
-    match call {
-        LevelCall::BadState => 9,
-        LevelCall::NoUnit => 1,
-        LevelCall::Level(level) => level as u32 * 65536,
-    }
-}
-
-pub fn pack_serial(call: SerialCall) -> u32
-    ensures { result ≡ serial_packed call }
-{
-    match call {
-        SerialCall::BadState => 9,
-        SerialCall::NoUnit => 1,
-        SerialCall::Serial(serial) => serial as u32 * 65536,
-    }
-}
-
-// The address takes 5 bits, A and B 2 each.
-fn pack_given(given: Given) -> u32
-    requires { Narrow given }
-    ensures { result ≡ given_packed given }
-{
-    let codes = given.codes;
-    (given.address as u32 + codes.a as u32 * 32 + codes.b as u32 * 128) * 65536
-}
-
-fn pack_slot(slot: Slot) -> u32
-    requires { NarrowSlot slot }
-    ensures { result ≡ slot_packed slot }
-{
-    match slot {
-        Slot::NoMaster => 8,
-        Slot::Given(given) => pack_given(given),
-    }
-}
-
-pub fn pack_slice(call: SliceCall) -> u32
-    requires { NarrowCall call }
-    ensures { result ≡ slice_packed call }
-{
-    match call {
-        SliceCall::BadState => 9,
-        SliceCall::BadMask => 7,
-        SliceCall::Passed(slot) => pack_slot(slot),
-    }
-}
-
-pub fn pack_wants(call: WantsCall) -> u64
-    ensures { result ≡ wants_packed call }
-{
-    match call {
-        WantsCall::BadState => 9,
-        WantsCall::Sides(mask) => mask as u64 * 65536,
-    }
-}
-
-// The address takes 18 bits, and the count of words stands above it.
-fn pack_transferred(transfer: Transfer) -> u64
-    ensures { result ≡ transferred_packed transfer }
-{
-    match transfer {
-        Transfer::Nothing => 4,
-        Transfer::Words(words) => words as u64 * 262144 * 65536,
-        Transfer::Missing(words, address) => (address as u64 + words as u64 * 262144) * 65536,
-    }
-}
-
-pub fn pack_transfer(call: TransferCall) -> u64
-    ensures { result ≡ transfer_packed call }
-{
-    match call {
-        TransferCall::BadState => 9,
-        TransferCall::NoUnit => 1,
-        TransferCall::Side(transfer) => pack_transferred(transfer),
+        Ok(value) => value.number() + value.value() * 65536,
+        Err(refusal) => u32::from(refusal) as u64,
     }
 }

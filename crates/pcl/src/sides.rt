@@ -1,83 +1,54 @@
 // The calls at one side of a unit: 0 its transmitter, 1 its receiver.
-ghost use Rattle.std.specs.Prelude.{◌≡◌, List, ℕ};
-ghost use Rattle.cells.specs.Fitted.{Fitted};
 ghost use Rattle.pcl.specs.Outcomes.{MoveOutcome, LevelOutcome, SerialOutcome};
-ghost use Rattle.pcl.specs.Sides.{fitted_move, fitted_level, fitted_serial};
 
-use crate::answers::{LevelCall, MoveCall, SerialCall};
-use crate::units::{Admission, admit};
+use crate::units::{Which, admit};
 use cells::units::memory_length;
 use moves::moving::{move_receiver, move_transmitter};
-use moves::serials::{receiver_serial, transmitter_serial};
+use moves::serials::serial as serial_of;
+use receiver::side::Receiver;
 use service::levels::{receiver_level, transmitter_level};
+use transmitter::side::Transmitter;
+use words::answers::Refusal;
 
-// The lent memory has to have the unit's fitted length.
-fn move_fitted(cells: &mut [u16], memory: &mut [u16], unit: usize, side: u32) -> MoveCall
-    requires { Fitted cells.old unit }
-    ensures { ◌≡◌ {A = MoveCall × List ℕ × List ℕ} (result, cells.new, memory.new) (fitted_move cells.old memory.old unit side) }
-{
-    if memory.len() < memory_length(cells, unit) {
-        return MoveCall::BadState;
-    }
-    match side {
-        0 => MoveCall::Side(move_transmitter(cells, memory, unit)),
-        1 => MoveCall::Side(move_receiver(cells, memory, unit)),
-        _ => MoveCall::NoUnit,
-    }
-}
-
-// The memory is that of the unit. A unit that is not fitted asks for none.
-pub fn move_word(cells: &mut [u16], memory: &mut [u16], unit: u32, side: u32) -> MoveCall
+// A memory move, and the address where one was missing. The memory is that of the unit, of its fitted length or more; a unit that is not
+// fitted asks for none.
+pub fn move_word(
+    cells: &mut [u16],
+    memory: &mut [u16],
+    unit: u32,
+    side: u32,
+) -> Result<Option<u32>, Refusal>
     ensures { MoveOutcome cells.old memory.old unit side (result, cells.new, memory.new) }
 {
-    let admission = admit(cells, unit);
-    match admission {
-        Admission::BadState => MoveCall::BadState,
-        Admission::NoUnit => MoveCall::NoUnit,
-        Admission::Fitted => move_fitted(cells, memory, unit as usize, side),
+    admit(cells, unit)?;
+    let unit = unit as usize;
+    if memory.len() < memory_length(cells, unit) {
+        return Err(Refusal::BadState);
+    }
+    match Which::try_from(side)? {
+        Which::Transmitter => move_transmitter(cells, memory, unit),
+        Which::Receiver => move_receiver(cells, memory, unit),
     }
 }
 
-fn level_fitted(cells: &[u16], unit: usize, side: u32) -> LevelCall
-    requires { Fitted cells.now unit }
-    ensures { result ≡ fitted_level cells.now unit side }
-{
-    match side {
-        0 => LevelCall::Level(transmitter_level(cells, unit)),
-        1 => LevelCall::Level(receiver_level(cells, unit)),
-        _ => LevelCall::NoUnit,
-    }
-}
-
-pub fn level(cells: &[u16], unit: u32, side: u32) -> LevelCall
+// Whether the interrupt level of a side stands.
+pub fn level(cells: &[u16], unit: u32, side: u32) -> Result<bool, Refusal>
     ensures { LevelOutcome cells.now unit side result }
 {
-    let admission = admit(cells, unit);
-    match admission {
-        Admission::BadState => LevelCall::BadState,
-        Admission::NoUnit => LevelCall::NoUnit,
-        Admission::Fitted => level_fitted(cells, unit as usize, side),
+    admit(cells, unit)?;
+    match Which::try_from(side)? {
+        Which::Transmitter => Ok(transmitter_level(cells, unit as usize)),
+        Which::Receiver => Ok(receiver_level(cells, unit as usize)),
     }
 }
 
-fn serial_fitted(cells: &[u16], unit: usize, side: u32) -> SerialCall
-    requires { Fitted cells.now unit }
-    ensures { result ≡ fitted_serial cells.now unit side }
-{
-    match side {
-        0 => SerialCall::Serial(transmitter_serial(cells, unit)),
-        1 => SerialCall::Serial(receiver_serial(cells, unit)),
-        _ => SerialCall::NoUnit,
-    }
-}
-
-pub fn serial(cells: &[u16], unit: u32, side: u32) -> SerialCall
+// The serial of a side.
+pub fn serial(cells: &[u16], unit: u32, side: u32) -> Result<u16, Refusal>
     ensures { SerialOutcome cells.now unit side result }
 {
-    let admission = admit(cells, unit);
-    match admission {
-        Admission::BadState => SerialCall::BadState,
-        Admission::NoUnit => SerialCall::NoUnit,
-        Admission::Fitted => serial_fitted(cells, unit as usize, side),
+    admit(cells, unit)?;
+    match Which::try_from(side)? {
+        Which::Transmitter => Ok(serial_of::<Transmitter>(cells, unit as usize)),
+        Which::Receiver => Ok(serial_of::<Receiver>(cells, unit as usize)),
     }
 }

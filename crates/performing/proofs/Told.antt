@@ -1,31 +1,28 @@
 -- A line, the cells and the memories, from what a call gave.
 -- Assumes nothing.
-use mathlib.Core.List.{List, ◌++◌}
-use mathlib.Core.Path.{◌≡◌, ap, ◌∙◌}
-use Prim.Native.Nat.{ℕ}
-use lib.Dec.{eqb}
-use lib.ListN.{length, take, drop, replicate}
-use Rattle.laws.specs.Pick.{pick}
-use Rattle.performing.specs.Perform.{call_line, move_line, Outcome, leaving, fit_done, memory_place, move_done}
+use Rattle.std.proofs.Common.{List, ◌++◌, ◌≡◌, ap, ◌∙◌, ℕ, take, drop}
+use Rattle.performing.specs.Perform.{Outcome, memory_place}
 use Rattle.script.specs.declared.lines.Line.{Line}
 
-pub left_told : {line : Line} {packed : ℕ} {cells : List ℕ} (memories : List ℕ) (f : ℕ → Line) (p : ℕ × List ℕ)
-    → line ≡ f packed → ◌≡◌ {A = ℕ × List ℕ} (packed, cells) p → ◌≡◌ {A = Outcome} (line, cells, memories) (leaving memories f p)
-left_told {cells} memories f p said e = ap (λ (l : Line). (l, cells, memories)) said ∙ ap (leaving memories f) e
+-- a call that leaves the memories
+pub told : {A : Type 0} {line : Line} {answer : A} {cells : List ℕ} (memories : List ℕ) (f : A → Line) (p : A × List ℕ)
+    → line ≡ f answer → ◌≡◌ {A = A × List ℕ} (answer, cells) p → ◌≡◌ {A = Outcome} (line, cells, memories) (f p.0, p.1, memories)
+told {A} {cells = cells} memories f p said e =
+    ap (λ (l : Line). (l, cells, memories)) said ∙ ap (λ (q : A × List ℕ). (f q.0, q.1, memories)) e
 
-pub fit_told : {line : Line} {packed : ℕ} {cells after : List ℕ} (memories : List ℕ) (p : ℕ × List ℕ)
-    → line ≡ call_line 1 packed → ◌≡◌ {A = ℕ × List ℕ} (packed, cells) p
-    → after ≡ pick (eqb packed 0) (replicate (length memories) 0) memories → ◌≡◌ {A = Outcome} (line, cells, after) (fit_done memories p)
-fit_told {line} {packed} {cells} {after} memories p said e cleared =
-    ap (λ (l : Line). (l, cells, after)) said ∙ ap (λ (m : List ℕ). (call_line 1 packed, cells, m)) cleared ∙ ap (fit_done memories) e
+-- the same, by what its line is otherwise
+pub told_as : {A : Type 0} {line : Line} {answer : A} {cells : List ℕ} (memories : List ℕ) (f g : A → Line) (p : A × List ℕ)
+    → line ≡ f answer → ◌≡◌ {A = A × List ℕ} (answer, cells) p → f p.0 ≡ g p.0
+    → ◌≡◌ {A = Outcome} (line, cells, memories) (g p.0, p.1, memories)
+told_as memories f g p said e same = told memories f p said e ∙ ap (λ (l : Line). (l, p.1, memories)) same
 
--- the part of the memories that was lent, n words, is one memory
-pub move_told : {line : Line} {packed : ℕ} {cells room : List ℕ} (unit n : ℕ) (memories : List ℕ) (f : ℕ → ℕ × List ℕ × List ℕ) → n ≡ 64
-    → line ≡ move_line packed → ◌≡◌ {A = ℕ × List ℕ × List ℕ} (packed, cells, room) (f n)
+-- a move, which is lent one memory, n words of all
+pub moved : {A : Type 0} {line : Line} {answer : A} {cells room : List ℕ} (unit n : ℕ) (memories : List ℕ) (f : A → Line)
+    (call : ℕ → A × List ℕ × List ℕ) → n ≡ 64 → line ≡ f answer → ◌≡◌ {A = A × List ℕ × List ℕ} (answer, cells, room) (call n)
     → ◌≡◌ {A = Outcome} (line, cells, take (memory_place unit) memories ++ (room ++ drop n (drop (memory_place unit) memories)))
-    (move_done unit memories (f 64))
-move_told {line} {packed} {cells} {room} unit n memories f whole said e =
+    (f (call 64).0, (call 64).1, take (memory_place unit) memories ++ ((call 64).2 ++ drop 64 (drop (memory_place unit) memories)))
+moved {A} {line} {answer} {cells} {room} unit n memories f call whole said e =
     let place = memory_place unit in
     ap (λ (l : Line). (l, cells, take place memories ++ (room ++ drop n (drop place memories)))) said
-    ∙ ap (λ (k : ℕ). (move_line packed, cells, take place memories ++ (room ++ drop k (drop place memories)))) whole
-    ∙ ap (move_done unit memories) (e ∙ ap f whole)
+    ∙ ap (λ (k : ℕ). (f answer, cells, take place memories ++ (room ++ drop k (drop place memories)))) whole
+    ∙ ap (λ (q : A × List ℕ × List ℕ). (f q.0, q.1, take place memories ++ (q.2 ++ drop 64 (drop place memories)))) (e ∙ ap call whole)

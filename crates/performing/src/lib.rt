@@ -1,114 +1,120 @@
 // A call of a script: performed, and the line that it prints.
 #![tactic(auto)]
 
-ghost use Rattle.std.specs.Prelude.{List, ◌≡◌, ℕ, ◌^◌, ◌≤◌, ◌<◌, length, drop, replicate};
-ghost use Rattle.pcl.specs.Face.{fit_face};
+ghost use Rattle.std.specs.Prelude.{List, Result, ◌≡◌, ℕ, ◌≤◌, ◌<◌, length, drop};
+ghost use Rattle.words.specs.declared.answers.Refusal.{Refusal};
+ghost use Rattle.pcl.specs.Link.{fit_call};
+ghost use Rattle.pcl.specs.Numbers.{read_packed, level_packed};
 ghost use Rattle.script.specs.SetUps.{set_up_of};
-ghost use Rattle.performing.specs.Perform.{number_in, value_in, call_line, read_line, level_line, slice_line, move_line, Outcome, fit_performed, move_performed, performed};
+ghost use Rattle.performing.specs.Laws.LineLaws.{slice_says, move_says};
+ghost use Rattle.performing.specs.Perform.{call_line, read_line, level_line, Outcome, fit_performed, move_performed, performed};
 
-use pcl::face::{
-    pcl_fit, pcl_level, pcl_move, pcl_period, pcl_read, pcl_reset, pcl_slice, pcl_write,
-    pcl_write_byte,
-};
+use bus::slice::Given;
+use pcl::calls::{pass_period, read, reset, write, write_byte};
+use pcl::link::{fit, slice};
+use pcl::packing::Value;
+use pcl::sides::{level, move_word};
 use script::calls::Call;
 use script::lines::Line;
 use script::setups::{NUMBERS, put_set_up};
+use words::answers::{Refusal, word_read};
 
-fn number_in(packed: u32) -> u32
-    ensures { result ≡ number_in packed }
+// Document 01's number of an answer.
+fn number_of<V: Value>(answer: Result<V, Refusal>) -> u32
+    ensures number { result ≡ V.number_in answer }
+    ensures low { result < 65536 }
 {
-    packed % 65536
+    match answer {
+        Ok(value) => value.number() as u32,
+        Err(refusal) => refusal.into(),
+    }
 }
 
-fn value_in(packed: u32) -> u32
-    ensures { result ≡ value_in packed }
-{
-    packed / 65536
-}
-
-fn call_line(kind: u32, packed: u32) -> Line
-    ensures { result ≡ call_line kind packed }
+// A call that shows its number alone.
+fn call_line<V: Value>(kind: u32, answer: Result<V, Refusal>) -> Line
+    ensures { result ≡ call_line kind (V.number_in answer) }
 {
     Line::Call {
         kind,
-        number: number_in(packed),
+        number: number_of(answer),
     }
 }
 
-fn read_line(packed: u32) -> Line
-    ensures { result ≡ read_line packed }
+// A read shows the word, 0 where there is none.
+#[tactic(auto, using(crate::specs::Laws::LineLaws::read_line_lem))]
+fn read_line(answer: Result<u16, Refusal>) -> Line
+    ensures { result ≡ read_line (read_packed answer) }
 {
     Line::Read {
-        number: number_in(packed),
-        word: value_in(packed),
+        number: number_of(answer),
+        word: word_read(answer) as u32,
     }
 }
 
-fn level_line(packed: u32) -> Line
-    ensures { result ≡ level_line packed }
+// An interrupt level shows 0 or 1.
+#[tactic(auto, using(crate::specs::Laws::LineLaws::level_line_lem))]
+fn level_line(answer: Result<bool, Refusal>) -> Line
+    ensures { result ≡ level_line (level_packed answer) }
 {
     Line::Level {
-        number: number_in(packed),
-        level: value_in(packed),
+        number: number_of(answer),
+        level: u32::from(answer.unwrap_or(false)),
     }
 }
 
-fn slice_line(packed: u32) -> Line
-    ensures { result ≡ slice_line packed }
+// A slice shows the address, A and B; one that gave none of them shows zeros behind its number.
+fn slice_line(answer: Result<Option<Given>, Refusal>) -> Line
+    ensures { result ≡ slice_says answer }
 {
-    let value = value_in(packed);
-    Line::Slice {
-        number: number_in(packed),
-        address: value % 32,
-        a: value / 32 % 4,
-        b: value / 128 % 4,
+    match answer {
+        Ok(Some(given)) => Line::Slice {
+            number: 0,
+            address: given.address as u32,
+            a: given.codes.a as u32,
+            b: given.codes.b as u32,
+        },
+        _ => Line::Slice {
+            number: number_of(answer),
+            address: 0,
+            a: 0,
+            b: 0,
+        },
     }
 }
 
-// An address that was missing stands above the number, which is 0 with it.
-fn move_line(packed: u64) -> Line
-    requires { packed < 2 ^ 34 }
-    ensures { result ≡ move_line packed }
+// A move that missed an address shows it, and any other its number alone.
+fn move_line(answer: Result<Option<u32>, Refusal>) -> Line
+    ensures { result ≡ move_says answer }
 {
-    let address = (packed / 65536) as u32;
-    if address == 0 {
-        return Line::Call {
+    match answer {
+        Ok(Some(address)) => Line::Missing { address },
+        _ => Line::Call {
             kind: 5,
-            number: (packed % 65536) as u32,
-        };
-    }
-    Line::Missing { address }
-}
-
-fn clear(words: &mut [u16])
-    ensures { words.new ≡ replicate (length words.old) 0 }
-{
-    for i in 0..words.len() {
-        words[i] = 0;
+            number: number_of(answer),
+        },
     }
 }
 
 // Where the set-ups of a fit stand in its record: behind length, kind and count.
 const SET_UPS: usize = 5;
 
-fn fit_cells(bytes: &[u8], count: u8, cells: &mut [u16]) -> u32
-    ensures { ◌≡◌ {A = ℕ × List ℕ} (result, cells.new) (fit_face cells.old (set_up_of (drop 5 bytes.now) count)) }
+fn fit_cells(bytes: &[u8], count: u8, cells: &mut [u16]) -> Result<(), Refusal>
+    ensures { ◌≡◌ {A = Result (Unit {0}) Refusal × List ℕ} (result, cells.new) (fit_call cells.old (set_up_of (drop 5 bytes.now) count)) }
 {
     let mut numbers = [0u32; NUMBERS];
     let held = put_set_up(bytes, SET_UPS, count, &mut numbers);
-    pcl_fit(cells, &numbers[..held])
+    fit(cells, &numbers[..held])
 }
 
 // A fit that is done gives zero memories again.
 fn perform_fit(bytes: &[u8], count: u8, cells: &mut [u16], memories: &mut [u16]) -> Line
     ensures { ◌≡◌ {A = Outcome} (result, cells.new, memories.new) (fit_performed (drop 5 bytes.now) count cells.old memories.old) }
 {
-    let packed = fit_cells(bytes, count, cells);
-    if packed == 0 {
-        clear(memories);
-        return call_line(1, packed);
+    let answer = fit_cells(bytes, count, cells);
+    if answer.is_ok() {
+        memories.fill(0);
     }
-    call_line(1, packed)
+    call_line(1, answer)
 }
 
 fn perform_move(unit: u8, side: u8, cells: &mut [u16], memories: &mut [u16]) -> Line
@@ -117,8 +123,7 @@ fn perform_move(unit: u8, side: u8, cells: &mut [u16], memories: &mut [u16]) -> 
 {
     let from = unit as usize % 16 * 64;
     let to = from + 64;
-    let packed = pcl_move(cells, &mut memories[from..to], unit as u32, side as u32);
-    move_line(packed)
+    move_line(move_word(cells, &mut memories[from..to], unit as u32, side as u32))
 }
 
 // The bytes begin with the call's record, where a fit has its set-ups.
@@ -130,17 +135,17 @@ pub fn perform(call: Call, bytes: &[u8], cells: &mut [u16], memories: &mut [u16]
         Call::Fit { count } => perform_fit(bytes, count, cells, memories),
         Call::WordWrite { unit, offset, word } => call_line(
             2,
-            pcl_write(cells, unit as u32, offset as u32, word),
+            write(cells, unit as u32, offset as u32, word),
         ),
-        Call::WordRead { unit, offset } => read_line(pcl_read(cells, unit as u32, offset as u32)),
-        Call::Slice { mask, parity } => slice_line(pcl_slice(cells, mask, parity as u32)),
+        Call::WordRead { unit, offset } => read_line(read(cells, unit as u32, offset as u32)),
+        Call::Slice { mask, parity } => slice_line(slice(cells, mask, parity as u32)),
         Call::Move { unit, side } => perform_move(unit, side, cells, memories),
-        Call::Period { unit } => call_line(6, pcl_period(cells, unit as u32)),
-        Call::Reset { unit } => call_line(7, pcl_reset(cells, unit as u32)),
+        Call::Period { unit } => call_line(6, pass_period(cells, unit as u32)),
+        Call::Reset { unit } => call_line(7, reset(cells, unit as u32)),
         Call::ByteWrite { unit, offset, byte } => call_line(
             8,
-            pcl_write_byte(cells, unit as u32, offset as u32, byte),
+            write_byte(cells, unit as u32, offset as u32, byte),
         ),
-        Call::Level { unit, side } => level_line(pcl_level(cells, unit as u32, side as u32)),
+        Call::Level { unit, side } => level_line(level(cells, unit as u32, side as u32)),
     }
 }

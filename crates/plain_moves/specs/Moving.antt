@@ -1,6 +1,6 @@
 -- A plain move, on the cells of a side's window.
 -- Assumes nothing.
-use Rattle.std.specs.Prelude.{Bool, true, false, ◌&&◌, ◌||◌, ◌≡◌, List, [], ◌∷◌, ◌++◌, ℕ, ◌+◌, ◌*◌, ◌^◌, ◌≤◌, ◌<◌, ltb, set}
+use Rattle.std.specs.Prelude.{Bool, true, false, ◌&&◌, ◌||◌, ◌≡◌, List, [], ◌∷◌, ◌++◌, ℕ, ◌+◌, ◌*◌, ◌^◌, ◌≤◌, ◌<◌, ltb, set, Result, Option}
 use Rattle.cells.specs.Fitted.{transmitter_of, receiver_of, put_transmitter, put_receiver}
 use Rattle.cells.specs.Layout.{memory_length}
 use Rattle.codec.specs.Window.{cell, window}
@@ -8,7 +8,7 @@ use Rattle.laws.specs.Bits.{bits, bit_at}
 use Rattle.plain.specs.Places.{behind, with_one, without_oldest}
 use Rattle.receiver.specs.Moves as R
 use Rattle.transmitter.specs.Moves as T
-use Rattle.words.specs.declared.answers.Move.{Move}
+use Rattle.words.specs.declared.answers.Refusal.{Refusal}
 
 -- whether a silo has room, by its ring's cell: its length is below 64
 abbrev pub room_by : ℕ → Bool
@@ -63,11 +63,11 @@ abbrev pub word_taken : List ℕ → ℕ → List ℕ
 word_taken cells at = head_moved cells at (without_oldest (cell cells at)) ++ window cells (at + 9) 64
 
 -- the answer and the cells after a transmitter's move
-abbrev pub transmitter_loaded : List ℕ → List ℕ → ℕ → Move × List ℕ
+abbrev pub transmitter_loaded : List ℕ → List ℕ → ℕ → Result (Option ℕ) Refusal × List ℕ
 transmitter_loaded cells memory unit =
     let m = T.moved (transmitter_of cells unit) memory (memory_length cells unit) in (m.answer, put_transmitter cells unit m.side)
 
 -- the answer, the cells and the memory after a receiver's
-abbrev pub receiver_stored : List ℕ → List ℕ → ℕ → Move × List ℕ × List ℕ
+abbrev pub receiver_stored : List ℕ → List ℕ → ℕ → Result (Option ℕ) Refusal × List ℕ × List ℕ
 receiver_stored cells memory unit =
     let m = R.moved (receiver_of cells unit) memory (memory_length cells unit) in (m.0.answer, put_receiver cells unit m.0.side, m.1)

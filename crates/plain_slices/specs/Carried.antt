@@ -1,6 +1,6 @@
 -- What a plain slice has done, in the words of the slice's own definitions.
 -- Assumes nothing.
-use Rattle.std.specs.Prelude.{false, List, ◌⊎◌, ◌≡◌, ℕ, ◌+◌, ◌≤◌, length}
+use Rattle.std.specs.Prelude.{false, List, ◌⊎◌, ◌≡◌, ℕ, ◌+◌, ◌≤◌, length, Option, Some, None}
 use Rattle.answering.specs.Choice.{open_with_another}
 use Rattle.codec.specs.Receivers.{enc_receiver, receiver_at}
 use Rattle.codec.specs.Transmitters.{enc_transmitter, transmitter_at}
@@ -36,6 +36,7 @@ pub record Carried (cells : List ℕ) (t r from b : ℕ) (after : List ℕ) : Ty
   pub codes : (between cells t r from).codes ≡ record { a = 2; b = b }
   pub sides : after ≡ put_both cells t r (between cells t r from).transmitter (between cells t r from).receiver
 
--- a slice that was tried: with 0, which is always allowed, nothing was done; any other number is its code B
-abbrev pub Tried : List ℕ → ℕ → ℕ → ℕ → ℕ → List ℕ → Type 0
-Tried cells t r from b after = (b ≡ 0 → after ≡ cells) × (1 ≤ b → Carried cells t r from b after)
+-- a slice that was tried: with None, which is always allowed, nothing was done; else there is its code B
+abbrev pub Tried : List ℕ → ℕ → ℕ → ℕ → Option ℕ → List ℕ → Type 0
+Tried cells t r from None after = after ≡ cells
+Tried cells t r from (Some b) after = Carried cells t r from b after

@@ -5,4 +5,3 @@
 mod halves;
 mod in_step;
 pub mod slice;
-mod windows;

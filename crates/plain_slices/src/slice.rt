@@ -8,7 +8,10 @@ ghost use Rattle.plain_slices.specs.Tests.{in_step_at, Sixteen};
 
 use crate::halves::{restart_receiver, restart_sender, send_due, send_word, store_word, take_due};
 use crate::in_step::in_step;
+use codec::end_cells::SILO;
+use codec::head::Head;
 use plain::places::front_of;
+use words::bits::{bit_at, rsr, tsr};
 use words::crc::crc_with_word;
 
 // A word, accepted and stored.
@@ -17,8 +20,9 @@ fn carry_word(cells: &mut [u16], t: usize, r: usize)
     requires bound { ((64 ≤ cell cells.old t) × (cell cells.old (t + 1) < 128) × (cell cells.old (t + 6) < 32768)) × ((cell cells.old r < 4096) × (cell cells.old (r + 1) < 128) × (cell cells.old (r + 6) < 512)) }
     ensures { cells.new ≡ word_carried cells.old t r }
 {
-    let word = cells[t + 9 + front_of(cells[t])];
-    let crc = crc_with_word(cells[t + 7], word);
+    let sender = Head::load(cells, t);
+    let word = cells[t + SILO + front_of(sender.ring)];
+    let crc = crc_with_word(sender.crc, word);
     send_word(cells, t, crc);
     store_word(cells, r, word, crc);
 }
@@ -44,78 +48,83 @@ fn carry_verdict(cells: &mut [u16], t: usize, r: usize)
 }
 
 // Fewer than 128 words since the last CRC: a word, if there is room for it. With 64 words held the ring's cell is 64 x 64 or more.
-fn try_word(cells: &mut [u16], t: usize, r: usize, from: u16) -> u16
+fn try_word(cells: &mut [u16], t: usize, r: usize, from: u16) -> Option<u16>
     requires placed { Placed cells.old t r }
     requires from_value { (in_step_at cells.old t r from ≡ true) × Sixteen cells.old × (cell cells.old (t + 1) < 128) }
     ensures { Tried cells.old t r from result cells.new }
 {
-    if cells[t + 6] >= 32768 {
-        return 0;
+    let sender = Head::load(cells, t);
+    let receiver = Head::load(cells, r);
+    if bit_at(sender.status, tsr::ERR) {
+        return None;
     }
-    if cells[r] >= 4096 {
-        return 0;
+    if receiver.ring >= 4096 {
+        return None;
     }
     carry_word(cells, t, r);
-    3
+    Some(3)
 }
 
 // 128 words, and no verdict awaited: the due CRC, if none is owed and no good one stands from before.
-fn try_due(cells: &mut [u16], t: usize, r: usize, from: u16) -> u16
+fn try_due(cells: &mut [u16], t: usize, r: usize, from: u16) -> Option<u16>
     requires placed { Placed cells.old t r }
     requires from_value { (in_step_at cells.old t r from ≡ true) × Sixteen cells.old × (cell cells.old (t + 1) ≡ 128) × (cell cells.old (t + 6) < 32768) }
     ensures { Tried cells.old t r from result cells.new }
 {
-    if cells[r + 6] / 64 % 2 != 0 {
-        return 0;
+    let receiver = Head::load(cells, r);
+    if bit_at(receiver.status, rsr::BUSY) {
+        return None;
     }
-    if cells[r + 6] / 256 % 2 != 0 {
-        return 0;
+    if bit_at(receiver.status, rsr::DTORDY) {
+        return None;
     }
     carry_due(cells, t, r);
-    1
+    Some(1)
 }
 
 // A verdict awaited: a good one, if that is owed.
-fn try_verdict(cells: &mut [u16], t: usize, r: usize, from: u16) -> u16
+fn try_verdict(cells: &mut [u16], t: usize, r: usize, from: u16) -> Option<u16>
     requires placed { Placed cells.old t r }
     requires from_value { (in_step_at cells.old t r from ≡ true) × Sixteen cells.old × (cell cells.old (t + 1) ≡ 128) × (32768 ≤ cell cells.old (t + 6)) }
     ensures { Tried cells.old t r from result cells.new }
 {
-    if cells[r + 6] / 64 % 2 != 1 {
-        return 0;
+    let receiver = Head::load(cells, r);
+    if !bit_at(receiver.status, rsr::BUSY) {
+        return None;
     }
-    if cells[r + 6] / 256 % 2 != 1 {
-        return 0;
+    if !bit_at(receiver.status, rsr::DTORDY) {
+        return None;
     }
     carry_verdict(cells, t, r);
-    3
+    Some(3)
 }
 
 // By what has been sent since the last CRC.
-fn carry_in_step(cells: &mut [u16], t: usize, r: usize, from: u16) -> u16
+fn carry_in_step(cells: &mut [u16], t: usize, r: usize, from: u16) -> Option<u16>
     requires { Placed cells.old t r × (in_step_at cells.old t r from ≡ true) × Sixteen cells.old }
     ensures { Tried cells.old t r from result cells.new }
 {
-    if cells[t + 1] < 128 {
+    let sender = Head::load(cells, t);
+    if sender.block < 128 {
         return try_word(cells, t, r, from);
     }
-    if cells[t + 1] != 128 {
-        return 0;
+    if sender.block != 128 {
+        return None;
     }
-    if cells[t + 6] < 32768 {
-        return try_due(cells, t, r, from);
+    if bit_at(sender.status, tsr::ERR) {
+        return try_verdict(cells, t, r, from);
     }
-    try_verdict(cells, t, r, from)
+    try_due(cells, t, r, from)
 }
 
-// The slice between the transmitter at `t` and the receiver at `r`, with nothing damaged: its code B, or 0 where it is not plain and
+// The slice between the transmitter at `t` and the receiver at `r`, with nothing damaged: its code B, or None where it is not plain and
 // nothing is done.
-pub fn carry(cells: &mut [u16], t: usize, r: usize, from: u16) -> u16
+pub fn carry(cells: &mut [u16], t: usize, r: usize, from: u16) -> Option<u16>
     requires { Placed cells.old t r }
     ensures { Tried cells.old t r from result cells.new }
 {
     if in_step(cells, t, r, from) {
         return carry_in_step(cells, t, r, from);
     }
-    0
+    None
 }

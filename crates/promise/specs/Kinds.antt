@@ -1,17 +1,18 @@
 -- What each event is to T: its own slice, a slice that serves another, or no slice.
 -- Assumes nothing.
-use Rattle.std.specs.Prelude.{◌&&◌, ◌||◌, List, [], ◌∷◌, ℕ, suc, eqb}
+use Rattle.std.specs.Prelude.{◌&&◌, ◌||◌, List, [], ◌∷◌, ℕ, suc, eqb, Result, Option}
 use Rattle.laws.specs.Pick.{pick}
 use Rattle.pcl.specs.Link.{slice_call}
 use Rattle.pcl.specs.Numbers.{slice_number, slice_value, address_of}
-use Rattle.pcl.specs.declared.answers.SliceCall.{SliceCall}
 use Rattle.promise.specs.World.{World, Event, fit, write, write_byte, read, slice, move, period, reset, level, serial, host_write, step}
+use Rattle.words.specs.declared.answers.Refusal.{Refusal}
+use Rattle.bus.specs.declared.slice.Given.{Given}
 
 pub data Kind : Type 0 where
   own other quiet : Kind
 
 -- "A slice call answered 7 or 9 isn't counted." T's own are those answered 0 with its address.
-abbrev pub slice_kind : ℕ → SliceCall → Kind
+abbrev pub slice_kind : ℕ → Result (Option Given) Refusal → Kind
 slice_kind address call =
     pick (eqb (slice_number call) 7 || eqb (slice_number call) 9) quiet
     (pick (eqb (slice_number call) 0 && eqb (address_of (slice_value call)) address) own other)

@@ -1,7 +1,7 @@
 -- The opening of a message, under document 01's conditions: an undamaged slice call is answered 0, and in it a closed transmitter T is
 -- answered 11 by a closed receiver R.
 -- Assumes nothing.
-use Rattle.std.specs.Prelude.{◌≡◌, ℕ, ◌-◌, eqb}
+use Rattle.std.specs.Prelude.{◌≡◌, ℕ, ◌-◌, eqb, Result, Option}
 use Rattle.cells.specs.Fitted.{transmitter_of, receiver_of}
 use Rattle.cells.specs.Index.{Indexed}
 use Rattle.cells.specs.Layout.{count_in, holder_in, memory_length, transmitter_address}
@@ -10,12 +10,13 @@ use Rattle.delivery.specs.Conditions as Delivery
 use Rattle.delivery.specs.Ends.{Ends, Message, message_of}
 use Rattle.pcl.specs.Link.{slice_call}
 use Rattle.pcl.specs.Numbers.{slice_number, slice_value, address_of, b_of}
-use Rattle.pcl.specs.declared.answers.SliceCall.{SliceCall}
 use Rattle.sending.specs.Choice.{destination_of}
 use Rattle.promise.specs.World.{World}
+use Rattle.words.specs.declared.answers.Refusal.{Refusal}
+use Rattle.bus.specs.declared.slice.Given.{Given}
 
 -- the answer of the slice call that names no damage
-abbrev pub undamaged : World → SliceCall
+abbrev pub undamaged : World → Result (Option Given) Refusal
 undamaged w = (slice_call w.cells 0 0).0
 
 -- ---- whose message it is: the units of T and of R, and the one that has MASTER. Any of them may be one.

@@ -1,13 +1,13 @@
 -- The world of a run: the lent cells and every unit's memory. An event is a public call with any arguments, or a host's write in a
 -- memory. All moves of a side at once are so many moves (`Transfers`), and who wants service leaves everything.
 -- Assumes nothing.
-use Rattle.std.specs.Prelude.{List, [], ◌∷◌, ℕ, ◌^◌, ◌<◌, eqb, set}
+use Rattle.std.specs.Prelude.{List, [], ◌∷◌, ℕ, ◌^◌, ◌<◌, eqb, set, Result, Option}
 use Rattle.laws.specs.Pick.{pick}
 use Rattle.pcl.specs.Calls.{read_call, write_call, byte_call, reset_call, period_call}
 use Rattle.pcl.specs.Link.{fit_call, slice_call}
 use Rattle.pcl.specs.Numbers.{read_call_number, write_call_number, done_number, fit_number, slice_number, move_call_number, level_number, serial_number}
 use Rattle.pcl.specs.Sides.{move_call, level_call, serial_call}
-use Rattle.pcl.specs.declared.answers.MoveCall.{MoveCall}
+use Rattle.words.specs.declared.answers.Refusal.{Refusal}
 
 pub record World : Type 0 where
   pub cells : List ℕ
@@ -60,7 +60,7 @@ abbrev pub with_memory : (ℕ → List ℕ) → ℕ → List ℕ → ℕ → Lis
 with_memory memory unit new k = pick (eqb k unit) new (memory k)
 
 -- a move is lent the memory of the unit that it names
-abbrev pub moved_by : World → ℕ → MoveCall × List ℕ × List ℕ → World
+abbrev pub moved_by : World → ℕ → Result (Option ℕ) Refusal × List ℕ × List ℕ → World
 moved_by w unit p = record { cells = p.1; memory = with_memory w.memory unit p.2 }
 
 abbrev pub step : Event → World → World

@@ -4,35 +4,26 @@ ghost use Rattle.receiver.specs.Bits.{control_of, status_of, commands_in, modes_
 ghost use Rattle.receiver.specs.Side.{Within};
 
 use crate::side::{Commands, Faults, Modes, Outcome, Receiver};
-use words::bits::{bit_at, bits_at, rcr, rsr};
+use words::bits::{bit_at, bits_at, rcr, rsr, set_at};
 
 // ---- out
 
-// Each part of the sum fits since the whole does: that is why this asks for the whole. The flags are taken out first, since a
-// cast of a field would carry what is known of the whole record along.
+// Each part of the sum fits since the whole does: that is why this asks for the whole.
 fn control_sum(r: Receiver, extension: u16, at_init: bool, at_ready: bool) -> u16
     requires { control_of r extension at_init at_ready < 65536 }
     ensures { result ≡ control_of r extension at_init at_ready }
 {
-    let receive_data = r.commands.receive_data;
-    let inhibit_increment = r.modes.inhibit_increment;
-    let interrupt_enable = r.modes.interrupt_enable;
-    let load_silo = r.modes.load_silo;
-    let sender = r.modes.sender;
-    let receive_word = r.commands.receive_word;
-    let memory_requests = r.modes.memory_requests;
-    let reject = r.modes.reject;
-    receive_data as u16 * (1 << rcr::RCV_DAT)
-        + at_init as u16 * (1 << rcr::RC_INIT)
-        + inhibit_increment as u16 * (1 << rcr::INH_ADI)
-        + at_ready as u16 * (1 << rcr::DTIRDY)
+    set_at(rcr::RCV_DAT, r.commands.receive_data)
+        + set_at(rcr::RC_INIT, at_init)
+        + set_at(rcr::INH_ADI, r.modes.inhibit_increment)
+        + set_at(rcr::DTIRDY, at_ready)
         + extension * (1 << rcr::EA16)
-        + interrupt_enable as u16 * (1 << rcr::IE)
-        + load_silo as u16 * (1 << rcr::LD_SILO)
-        + sender * (1 << rcr::IB_00)
-        + receive_word as u16 * (1 << rcr::RCV_WD)
-        + memory_requests as u16 * (1 << rcr::RC_NPR)
-        + reject as u16 * (1 << rcr::REJ)
+        + set_at(rcr::IE, r.modes.interrupt_enable)
+        + set_at(rcr::LD_SILO, r.modes.load_silo)
+        + r.modes.sender * (1 << rcr::IB_00)
+        + set_at(rcr::RCV_WD, r.commands.receive_word)
+        + set_at(rcr::RC_NPR, r.modes.memory_requests)
+        + set_at(rcr::REJ, r.modes.reject)
 }
 
 // RCR, with EA17 and EA16, and with what stands at RC INIT and at DTIRDY.
@@ -48,31 +39,21 @@ fn status_sum(r: Receiver, at_busy: bool, at_ready: bool, at_error: bool) -> u16
     requires { status_of r at_busy at_ready at_error < 65536 }
     ensures { result ≡ status_of r at_busy at_ready at_error }
 {
-    let a = r.end.shown.a;
-    let b = r.end.shown.b;
-    let opened = r.end.opened;
-    let reject_complete = r.outcome.reject_complete;
-    let success = r.outcome.success;
-    let byte_count_overflow = r.faults.byte_count_overflow;
-    let time_out = r.faults.time_out;
-    let parity = r.faults.parity;
-    let transmission_error = r.faults.transmission_error;
-    let memory_overflow = r.faults.memory_overflow;
-    let nonexistent_location = r.faults.nonexistent_location;
-    a * (1 << rsr::RSP_A_0)
-        + b * (1 << rsr::RSP_B_0)
-        + opened as u16 * (1 << rsr::CHN_OPN)
-        + reject_complete as u16 * (1 << rsr::RECOM)
-        + at_busy as u16 * (1 << rsr::BUSY)
-        + success as u16 * (1 << rsr::SUC_TXF)
-        + at_ready as u16 * (1 << rsr::DTORDY)
-        + byte_count_overflow as u16 * (1 << rsr::BC_OFL)
-        + time_out as u16 * (1 << rsr::TIM_OUT)
-        + parity as u16 * (1 << rsr::PAR)
-        + transmission_error as u16 * (1 << rsr::TXM_ERR)
-        + memory_overflow as u16 * (1 << rsr::MEM_OFL)
-        + nonexistent_location as u16 * (1 << rsr::NXL)
-        + at_error as u16 * (1 << rsr::ERR)
+    let shown = r.end.shown;
+    shown.a * (1 << rsr::RSP_A_0)
+        + shown.b * (1 << rsr::RSP_B_0)
+        + set_at(rsr::CHN_OPN, r.end.opened)
+        + set_at(rsr::RECOM, r.outcome.reject_complete)
+        + set_at(rsr::BUSY, at_busy)
+        + set_at(rsr::SUC_TXF, r.outcome.success)
+        + set_at(rsr::DTORDY, at_ready)
+        + set_at(rsr::BC_OFL, r.faults.byte_count_overflow)
+        + set_at(rsr::TIM_OUT, r.faults.time_out)
+        + set_at(rsr::PAR, r.faults.parity)
+        + set_at(rsr::TXM_ERR, r.faults.transmission_error)
+        + set_at(rsr::MEM_OFL, r.faults.memory_overflow)
+        + set_at(rsr::NXL, r.faults.nonexistent_location)
+        + set_at(rsr::ERR, at_error)
 }
 
 // RSR, with what stands at BUSY, at DTORDY and at ERR.

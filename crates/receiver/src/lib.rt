@@ -1,8 +1,6 @@
-// A receiver: its record and its bits in RCR and RSR, its requests, its memory moves and its periods.
+// A receiver: its record and what is its own of what both sides do, its bits in RCR and RSR, and its memory moves.
 #![tactic(auto)]
 
 pub mod bits;
 pub mod moves;
-pub mod periods;
-pub mod requests;
 pub mod side;

@@ -1,53 +1,52 @@
 // Memory moves: a word of the silo into the host memory.
 ghost use Rattle.std.specs.Prelude.{◌≡◌, List, ℕ, ◌≤◌, ◌<◌, length};
 ghost use Rattle.words.specs.Address.{place_of};
-ghost use Rattle.receiver.specs.Moves.{may_move, exceeded, nonexistent, missed_at, overflowed, advanced, word_passed, word_stored, moved};
+ghost use Rattle.receiver.specs.Moves.{Moved, may_move, exceeded, nonexistent, missed_at, overflowed, advanced, word_passed, word_stored, moved};
 ghost use Rattle.receiver.specs.Side.{Within};
 
-use crate::requests::fail;
-use crate::side::{Receiver, has_error, is_data_out_ready};
-use words::address::Place;
-use words::answers::Move;
+use crate::side::{Faults, Receiver, is_data_out_ready};
+use ends::End;
+use ends::sides::{Answered, Side};
+use words::answers::Refusal;
 use words::load::Advance;
 
-#[derive(Clone, Copy)]
-pub struct Moved {
-    pub side: Receiver,
-    pub answer: Move,
-}
+// The receiver after a move, and the answer: an address comes with NXL alone.
+pub type Moved = Answered<Receiver, Result<Option<u32>, Refusal>>;
 
 // Whether there is something to move.
 pub fn may_move(r: Receiver) -> bool
     ensures { result ≡ may_move r }
 {
-    r.modes.memory_requests & is_data_out_ready(r) & !has_error(r)
+    r.modes.memory_requests & is_data_out_ready(r) & !r.has_error()
 }
 
 // BC OFL.
 fn exceed(r: Receiver) -> Receiver
     ensures { result ≡ exceeded r }
 {
-    let mut faults = r.faults;
-    faults.byte_count_overflow = true;
-    fail(r, faults)
+    r.fail(Faults {
+        byte_count_overflow: true,
+        ..r.faults
+    })
 }
 
 // NXL.
 fn miss(r: Receiver) -> Receiver
     ensures { result ≡ nonexistent r }
 {
-    let mut faults = r.faults;
-    faults.nonexistent_location = true;
-    fail(r, faults)
+    r.fail(Faults {
+        nonexistent_location: true,
+        ..r.faults
+    })
 }
 
 // NXL, and the address tried with it.
 fn miss_at(r: Receiver, tried: u32) -> Moved
     ensures { result ≡ missed_at r tried }
 {
-    Moved {
+    Answered {
         side: miss(r),
-        answer: Move::Missing(tried),
+        answer: Ok(Some(tried)),
     }
 }
 
@@ -55,21 +54,23 @@ fn miss_at(r: Receiver, tried: u32) -> Moved
 fn overflow(r: Receiver) -> Receiver
     ensures { result ≡ overflowed r }
 {
-    let mut faults = r.faults;
-    faults.memory_overflow = true;
-    fail(r, faults)
+    r.fail(Faults {
+        memory_overflow: true,
+        ..r.faults
+    })
 }
 
 // The word has left the silo, and the count and the address have gone on. Count 0 leaves RC NPR set.
 fn remove_word(r: Receiver, advance: Advance) -> Receiver
     ensures { result ≡ advanced r advance }
 {
-    let load = advance.load;
-    let mut end = r.end;
-    end.silo = end.silo.take();
-    end.load = load;
-    let mut next = r;
-    next.end = end;
+    let silo = r.end.silo;
+    let end = End {
+        silo: silo.take(),
+        load: advance.load,
+        ..r.end
+    };
+    let next = Receiver { end, ..r };
     if advance.overflow {
         return overflow(next);
     }
@@ -92,14 +93,14 @@ fn store_word(r: Receiver, memory: &mut [u16], at: usize) -> Moved
 {
     let silo = r.end.silo;
     memory[at] = silo.oldest();
-    Moved {
+    Answered {
         side: pass_word(r),
-        answer: Move::Done,
+        answer: Ok(None),
     }
 }
 
 // The word of a memory of so many words that the load's address names, or the address that names none.
-fn find_place(r: Receiver, memory: usize) -> Place
+fn find_place(r: Receiver, memory: usize) -> Result<usize, u32>
     ensures { result ≡ place_of r.end.load.address.0 memory }
 {
     let load = r.end.load;
@@ -114,20 +115,20 @@ pub fn move_word(r: Receiver, memory: &mut [u16], fitted: usize) -> Moved
     ensures { ◌≡◌ {A = Moved × List ℕ} (result, memory.new) (moved r memory.old fitted) }
 {
     if !may_move(r) {
-        return Moved {
+        return Answered {
             side: r,
-            answer: Move::Nothing,
+            answer: Err(Refusal::Nothing),
         };
     }
     if !r.end.load.loaded {
-        return Moved {
+        return Answered {
             side: exceed(r),
-            answer: Move::Done,
+            answer: Ok(None),
         };
     }
     let place = find_place(r, fitted);
     match place {
-        Place::Inside(at) => store_word(r, memory, at),
-        Place::Outside(tried) => miss_at(r, tried),
+        Ok(at) => store_word(r, memory, at),
+        Err(tried) => miss_at(r, tried),
     }
 }

@@ -1,19 +1,23 @@
 // The record of a receiver, in small groups, and what the rules ask of it.
-ghost use Rattle.std.specs.Prelude.{◌≡◌};
+ghost use Rattle.std.specs.Prelude.{◌≡◌, refl, true};
+ghost use Rattle.receiver.specs.Fields.{with_time_out};
+ghost use Rattle.receiver.specs.Groups.{with_end, with_faults};
+ghost use Rattle.receiver.specs.Requests.{requested, settled};
 ghost use Rattle.receiver.specs.Side.{initial, is_busy, has_error, data_in_ready, data_out_ready};
 
 use ends::End;
+use ends::sides::Side;
 use silos::WORDS;
 
 // RCR: the two commands that a request clears, and closing.
-#[derive(Clone, Copy)]
+#[derive(Clone, Copy, Default)]
 pub struct Commands {
     pub receive_data: bool,
     pub receive_word: bool,
 }
 
 // RCR: the rest, but for EA17 and EA16, which are part of the load's address. The sender is the last opening's, and read-only.
-#[derive(Clone, Copy)]
+#[derive(Clone, Copy, Default)]
 pub struct Modes {
     pub inhibit_increment: bool,
     pub interrupt_enable: bool,
@@ -24,7 +28,7 @@ pub struct Modes {
 }
 
 // RSR: the error bits.
-#[derive(Clone, Copy)]
+#[derive(Clone, Copy, Default)]
 pub struct Faults {
     pub byte_count_overflow: bool,
     pub time_out: bool,
@@ -35,7 +39,7 @@ pub struct Faults {
 }
 
 // RSR: how a message ended.
-#[derive(Clone, Copy)]
+#[derive(Clone, Copy, Default)]
 pub struct Outcome {
     pub reject_complete: bool,
     pub success: bool,
@@ -43,7 +47,7 @@ pub struct Outcome {
 
 // The channel: whether a CRC was taken and its verdict is owed, that verdict is good, the word before had bad parity, the message is
 // truncated.
-#[derive(Clone, Copy)]
+#[derive(Clone, Copy, Default)]
 pub struct Channel {
     pub owed: bool,
     pub good: bool,
@@ -61,62 +65,86 @@ pub struct Receiver {
     pub channel: Channel,
 }
 
-// What fit, RC INIT and reset give, with the serial that fit makes 0 and the others keep.
-pub fn start(serial: u16) -> Receiver
-    ensures { result ≡ initial serial }
-{
-    Receiver {
-        end: End::none(serial),
-        commands: Commands {
-            receive_data: false,
-            receive_word: false,
-        },
-        modes: Modes {
-            inhibit_increment: false,
-            interrupt_enable: false,
-            load_silo: false,
-            memory_requests: false,
-            reject: false,
-            sender: 0,
-        },
-        faults: Faults {
-            byte_count_overflow: false,
-            time_out: false,
-            parity: false,
-            transmission_error: false,
-            memory_overflow: false,
-            nonexistent_location: false,
-        },
-        outcome: Outcome {
-            reject_complete: false,
-            success: false,
-        },
-        channel: Channel {
-            owed: false,
-            good: false,
-            bad_parity: false,
-            truncated: false,
-        },
+impl Side for Receiver {
+    type Faults = Faults;
+
+    ghost initial = { initial };
+
+    ghost end_of = { λ r. r.end };
+
+    ghost with_end = { with_end };
+
+    ghost with_faults = { with_faults };
+
+    ghost timed_out = { λ r. with_time_out r.faults true };
+
+    ghost is_busy = { is_busy };
+
+    ghost counts_periods = { λ r. r.end.opened };
+
+    ghost has_error = { has_error };
+
+    ghost requested = { requested };
+
+    ghost settled = { settled };
+
+    ghost settles = { λ _. refl };
+
+    fn start(serial: u16) -> Receiver {
+        Receiver {
+            end: End::none(serial),
+            commands: Commands::default(),
+            modes: Modes::default(),
+            faults: Faults::default(),
+            outcome: Outcome::default(),
+            channel: Channel::default(),
+        }
     }
-}
 
-// BUSY.
-pub fn is_busy(r: Receiver) -> bool
-    ensures { result ≡ is_busy r }
-{
-    r.commands.receive_word | r.end.opened
-}
+    fn end(self) -> End {
+        self.end
+    }
 
-// ERR.
-pub fn has_error(r: Receiver) -> bool
-    ensures { result ≡ has_error r }
-{
-    r.faults.byte_count_overflow
-        | r.faults.time_out
-        | r.faults.parity
-        | r.faults.transmission_error
-        | r.faults.memory_overflow
-        | r.faults.nonexistent_location
+    fn with_end(self, end: End) -> Receiver {
+        Receiver { end, ..self }
+    }
+
+    fn with_faults(self, faults: Faults) -> Receiver {
+        Receiver { faults, ..self }
+    }
+
+    fn timed_out(self) -> Faults {
+        Faults {
+            time_out: true,
+            ..self.faults
+        }
+    }
+
+    fn is_busy(self) -> bool {
+        self.commands.receive_word | self.end.opened
+    }
+
+    // The period's mark may stand where it is open, whatever RCV WD is.
+    fn counts_periods(self) -> bool {
+        self.end.opened
+    }
+
+    fn has_error(self) -> bool {
+        self.faults.byte_count_overflow
+            | self.faults.time_out
+            | self.faults.parity
+            | self.faults.transmission_error
+            | self.faults.memory_overflow
+            | self.faults.nonexistent_location
+    }
+
+    // A request clears RCV WD and RCV DAT.
+    fn request(self) -> Receiver {
+        Receiver {
+            commands: Commands::default(),
+            ..self
+        }
+    }
 }
 
 // DTIRDY.

@@ -1,6 +1,7 @@
 -- Document 01, Registers: what a write of a receiver's register does.
 -- Assumes nothing.
-use Rattle.std.specs.Prelude.{Bool, not, ◌&&◌, ◌||◌, ℕ, eqb}
+use Rattle.std.specs.Prelude.{Bool, not, ◌&&◌, ◌||◌, ℕ, eqb, Result, Ok, Err}
+use Rattle.ends.specs.declared.sides.Answered.{Answered}
 use Rattle.laws.specs.Bits.{bits, bit_at}
 use Rattle.laws.specs.Pick.{pick}
 use Rattle.words.specs.Answers.{read_word}
@@ -10,6 +11,7 @@ use Rattle.words.specs.Load.{count_loaded, extension_loaded, low_loaded}
 use Rattle.words.specs.Bits.RCR
 use Rattle.words.specs.Bits.RSR
 use Rattle.words.specs.declared.answers.Write.{Write}
+use Rattle.words.specs.declared.answers.Refusal.{Refusal}
 use Rattle.receiver.specs.Bits.{commands_in, modes_in, faults_in, outcome_in}
 use Rattle.receiver.specs.Fields.{with_sender, with_nonexistent_location}
 use Rattle.receiver.specs.Groups.{with_load, with_shown, with_commands, with_modes, with_faults, with_outcome}
@@ -19,7 +21,10 @@ use Rattle.receiver.specs.declared.side.Faults.{Faults}
 use Rattle.receiver.specs.declared.side.Modes.{Modes}
 use Rattle.receiver.specs.declared.side.Receiver.{Receiver}
 use Rattle.receiver_registers.specs.Reading.{show_of}
-use Rattle.receiver_registers.specs.declared.registers.Written.{Written}
+
+-- a receiver after a write, and the answer
+abbrev pub Written : Type 0
+Written = Answered Receiver (Result Write Refusal)
 
 -- ---- RCR
 
@@ -77,7 +82,7 @@ address_written r word = with_load r (low_loaded r.end.load word)
 -- ---- all registers
 
 abbrev done : Receiver → Written
-done r = record { side = r; answer = Write.Done }
+done r = record { side = r; answer = Ok Write.Done }
 
 -- "Writing RDDB, .. or RDCRC changes nothing."
 abbrev pub written : Receiver → ℕ → ℕ → Written
@@ -87,7 +92,7 @@ written r offset word =
     (pick (eqb offset 22) (done (count_written r word))
     (pick (eqb offset 24) (done (address_written r word))
     (pick (eqb offset 20 || eqb offset 26) (done r)
-    (record { side = r; answer = Write.NoRegister })))))
+    (record { side = r; answer = Err Refusal.NoRegister })))))
 
 -- the registers that a write changes: RCR, RSR, RDBC and RDBA
 abbrev pub changes : ℕ → Bool
@@ -97,7 +102,7 @@ changes offset = eqb offset 16 || eqb offset 18 || eqb offset 22 || eqb offset 2
 -- marks RDBC loaded (reading 6)
 abbrev pub byte_written : Receiver → ℕ → ℕ → Written
 byte_written r offset byte =
-    pick (eqb (even_below offset) 20) (record { side = r; answer = Write.ByteRefused })
+    pick (eqb (even_below offset) 20) (record { side = r; answer = Err Refusal.ByteRefused })
     (written r (even_below offset) (with_half (read_word (show_of r (even_below offset))) offset byte))
 
 -- and those that a byte written changes: the same

@@ -5,23 +5,18 @@ ghost use Rattle.receiver_registers.specs.Reading.{data_read, show_of, read_of, 
 ghost use Rattle.receiver_registers.specs.Writing.{initialises, written, byte_written, changes, changes_byte};
 
 use crate::shown::{control_word, status_word};
-use crate::writes::{write_address, write_control, write_count, write_status};
+use crate::writes::{write_control, write_status};
+use ends::sides::{Answered, Side, written};
 use receiver::side::Receiver;
-use words::answers::{Read, Write, word_read};
+use words::answers::{Refusal, Write, word_read};
 use words::bits::{bit_at, rcr};
 use words::halves::{register_offset, with_half};
 
-#[derive(Clone, Copy)]
-pub struct Reading {
-    pub side: Receiver,
-    pub answer: Read,
-}
+// The receiver after a read, and the answer.
+pub type Reading = Answered<Receiver, Result<u16, Refusal>>;
 
-#[derive(Clone, Copy)]
-pub struct Written {
-    pub side: Receiver,
-    pub answer: Write,
-}
+// The receiver after a write, and the answer.
+pub type Written = Answered<Receiver, Result<Write, Refusal>>;
 
 // ---- reading
 
@@ -29,26 +24,11 @@ pub struct Written {
 fn read_data(r: Receiver) -> Reading
     ensures { result ≡ data_read r }
 {
-    let silo = r.end.silo;
-    if silo.is_empty() {
-        return Reading {
-            side: r,
-            answer: Read::Nothing,
-        };
-    }
-    let answer = Read::Word(silo.oldest());
-    if r.modes.memory_requests {
-        return Reading { side: r, answer };
-    }
-    let mut end = r.end;
-    end.silo = silo.take();
-    let mut next = r;
-    next.end = end;
-    Reading { side: next, answer }
+    r.read_oldest(!r.modes.memory_requests)
 }
 
 // What a register other than RDDB shows.
-fn show(r: Receiver, offset: u32) -> Read
+fn show(r: Receiver, offset: u32) -> Result<u16, Refusal>
     requires { Within r }
     ensures { result ≡ show_of r offset }
 {
@@ -56,15 +36,16 @@ fn show(r: Receiver, offset: u32) -> Read
     let count = load.count;
     let address = load.address;
     match offset {
-        16 => Read::Word(control_word(r)),
-        18 => Read::Word(status_word(r)),
-        22 => Read::Word(count.0),
-        24 => Read::Word(address.low()),
-        26 => Read::Word(r.end.crc),
-        _ => Read::NoRegister,
+        16 => Ok(control_word(r)),
+        18 => Ok(status_word(r)),
+        22 => Ok(count.0),
+        24 => Ok(address.low()),
+        26 => Ok(r.end.crc),
+        _ => Err(Refusal::NoRegister),
     }
 }
 
+// A word read: the receiver after it, and what it shows or why it is refused.
 pub fn read(r: Receiver, offset: u32) -> Reading
     requires { Within r }
     ensures { result ≡ read_of r offset }
@@ -72,7 +53,7 @@ pub fn read(r: Receiver, offset: u32) -> Reading
     if offset == 20 {
         return read_data(r);
     }
-    Reading {
+    Answered {
         side: r,
         answer: show(r, offset),
     }
@@ -95,34 +76,20 @@ pub fn asks_init(word: u16) -> bool
     bit_at(word, rcr::RC_INIT)
 }
 
+// A word written: the receiver after it, and the answer. A write of RDDB or RDCRC changes nothing.
 pub fn write(r: Receiver, offset: u32, word: u16) -> Written
     requires { Within r }
     ensures { result ≡ written r offset word }
 {
     match offset {
-        16 => Written {
-            side: write_control(r, word),
-            answer: Write::Done,
-        },
-        18 => Written {
-            side: write_status(r, word),
-            answer: Write::Done,
-        },
-        22 => Written {
-            side: write_count(r, word),
-            answer: Write::Done,
-        },
-        24 => Written {
-            side: write_address(r, word),
-            answer: Write::Done,
-        },
-        20 | 26 => Written {
+        16 => written(write_control(r, word)),
+        18 => written(write_status(r, word)),
+        22 => written(r.write_count(word)),
+        24 => written(r.write_address(word)),
+        20 | 26 => written(r),
+        _ => Answered {
             side: r,
-            answer: Write::Done,
-        },
-        _ => Written {
-            side: r,
-            answer: Write::NoRegister,
+            answer: Err(Refusal::NoRegister),
         },
     }
 }
@@ -131,7 +98,7 @@ pub fn write(r: Receiver, offset: u32, word: u16) -> Written
 pub fn changes(offset: u32) -> bool
     ensures { result ≡ changes offset }
 {
-    (offset == 16) | (offset == 18) | (offset == 22) | (offset == 24)
+    matches!(offset, 16 | 18 | 22 | 24)
 }
 
 // A byte is written as its register's word with that half changed; a byte of RDDB is refused.
@@ -141,9 +108,9 @@ pub fn write_byte(r: Receiver, offset: u32, byte: u8) -> Written
 {
     let register = register_offset(offset);
     if register == 20 {
-        return Written {
+        return Answered {
             side: r,
-            answer: Write::ByteRefused,
+            answer: Err(Refusal::ByteRefused),
         };
     }
     let before = word_read(show(r, register));

@@ -3,8 +3,9 @@ ghost use Rattle.std.specs.Prelude.{◌≡◌};
 ghost use Rattle.receiver.specs.Side.{Within};
 ghost use Rattle.receiver_registers.specs.Shown.{control_word, status_word};
 
+use ends::sides::Side;
 use receiver::bits::{control_bits, status_bits};
-use receiver::side::{Receiver, has_error, is_busy, is_data_in_ready, is_data_out_ready};
+use receiver::side::{Receiver, is_data_in_ready, is_data_out_ready};
 
 // RCR. RC INIT reads 0.
 pub fn control_word(r: Receiver) -> u16
@@ -21,5 +22,5 @@ pub fn status_word(r: Receiver) -> u16
     requires { Within r }
     ensures { result ≡ status_word r }
 {
-    status_bits(r, is_busy(r), is_data_out_ready(r), has_error(r))
+    status_bits(r, r.is_busy(), is_data_out_ready(r), r.has_error())
 }

@@ -1,13 +1,10 @@
--- Runs of stores, and the turns of the two loops that make them.
+-- Runs of stores, and what makes them: copies, and the turns of the loop over the units.
 -- Assumes nothing.
-use mathlib.Core.List.{List, [], ◌∷◌, ◌++◌}
-use mathlib.Core.Path.{◌≡◌, refl, sym, ap, ◌∙◌}
-use Prim.Native.Nat.{ℕ, suc, ◌+◌, ◌*◌, ◌≤◌, ◌<◌}
-use native.Mathlib.Nat.{add-zero, zero-add}
-use native.Mathlib.Numerals.{add-one}
-use native.Mathlib.Omega.{arith}
-use lib.ListN.{length, get_or, take, drop, set, length-drop}
-use lib.Seq.{sets, get_or-set_other, get_or-drop, length-take-le, take-suc}
+use Rattle.std.proofs.Common.{List, [], ◌∷◌, ◌++◌, ◌≡◌, refl, sym, ap, ◌∙◌, ℕ, suc, ◌+◌, ◌*◌, ◌≤◌, length, take, drop, set, arith, add-one, add-zero, zero-add, length-drop, length-take-le}
+use Rattle.std.proofs.Math.Seq.{paste, take_all}
+use Rattle.std.proofs.lemmas.List.Edits.{sets, sets-eq}
+use Rattle.std.proofs.lemmas.Slice.{put_mid-paste}
+use borrow.Rule.Slice.PartMut.{put_mid}
 use Rattle.script.specs.Laws.SetUpLaws.{units_long}
 use Rattle.script.specs.SetUps.{unit_at, units_at}
 
@@ -22,25 +19,19 @@ sets_append l at (x ∷ p) q =
 pub sets_front : (l p q : List ℕ) (n : ℕ) → length p ≡ n → sets (sets l 0 p) n q ≡ sets l 0 (p ++ q)
 sets_front l p q n long = rw (← long, ← zero-add (length p)) (sets_append l 0 p q)
 
--- what stands above a run is left
-above : (l : List ℕ) (at : ℕ) (p : List ℕ) (k : ℕ) → at + length p ≤ k → get_or (sets l at p) k 0 ≡ get_or l k 0
-above l at [] k h = refl
-above l at (x ∷ p) k h =
-    above (set l at x) (suc at) p k (omega arith) ∙ get_or-set_other l at k x 0 (λ (e : k ≡ at). omega arith)
+-- a part that is copied to the front is a run of stores
+pub copied : (w : List ℕ) (at n : ℕ) → at + n ≤ length w → paste w 0 (drop at w) n ≡ sets w 0 (take n (drop at w))
+copied w at n h =
+    let part = take n (drop at w) in
+    let long : length part ≡ n = length-take-le n (drop at w) (rw length-drop (omega arith)) in
+    sym (sets-eq part w 0 (omega arith) ∙ ap (λ (k : ℕ). take 0 w ++ part ++ drop (0 + k) w) long)
 
--- ---- a turn of the loop that keeps the rest of a window
-
-pub kept : (w : List ℕ) (at i : ℕ) → at + i < length w
-    → set (sets w 0 (take i (drop at w))) i (get_or (sets w 0 (take i (drop at w))) (at + i) 0) ≡ sets w 0 (take (i + 1) (drop at w))
-kept w at i h =
-    let rest = drop at w in
-    let more : i < length rest = simp length-drop (omega arith) in
-    let long : length (take i rest) ≡ i = length-take-le i rest (omega arith) in
-    let read : get_or (sets w 0 (take i rest)) (at + i) 0 ≡ get_or rest i 0 =
-    above w 0 (take i rest) (at + i) (omega arith) ∙ sym (get_or-drop at w i 0) in
-    ap (set (sets w 0 (take i rest)) i) read
-    ∙ sets_front w (take i rest) (get_or rest i 0 ∷ []) i long
-    ∙ rw (add-one i, take-suc rest i 0 more)
+-- and so is a slice that is copied over a part
+pub laid : (l vs now : List ℕ) (at n : ℕ) → now ≡ vs → n ≡ length vs → at + n ≤ length l → put_mid at n l now ≡ sets l at vs
+laid l vs now at n same long h =
+    put_mid-paste at n l now vs n same refl long
+    ∙ ap (λ (part : List ℕ). take at l ++ part ++ drop (at + n) l) (take_all n vs (omega arith))
+    ∙ ap (λ (k : ℕ). take at l ++ vs ++ drop (at + k) l) long ∙ sym (sets-eq vs l at (omega arith))
 
 -- ---- a turn of the loop over the units
 

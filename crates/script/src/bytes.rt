@@ -6,10 +6,7 @@ ghost use Rattle.script.specs.Records.{byte_at, word_at};
 pub(crate) fn byte_at(bytes: &[u8], k: usize) -> u8
     ensures { result ≡ byte_at bytes.now k }
 {
-    if k < bytes.len() {
-        return bytes[k];
-    }
-    0
+    bytes.get(k).copied().unwrap_or(0)
 }
 
 // Two bytes of a record, the low one first.
@@ -17,5 +14,5 @@ pub(crate) fn word_at(bytes: &[u8], k: usize) -> u16
     requires { k < 65536 }
     ensures { result ≡ word_at bytes.now k }
 {
-    byte_at(bytes, k) as u16 + byte_at(bytes, k + 1) as u16 * 256
+    u16::from_le_bytes([byte_at(bytes, k), byte_at(bytes, k + 1)])
 }

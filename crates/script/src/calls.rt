@@ -38,7 +38,8 @@ fn sized(bytes: &[u8], length: usize, call: Call) -> Found
     Found::Stop
 }
 
-// The call of a record, of which these are kind and body.
+// The call of a record, of which these are kind and body. The kinds stand here alone, by the numbers that a record has for them.
+#[tactic(auto, unfolding(crate::specs::Records::call_of))]
 pub(crate) fn call_of(bytes: &[u8]) -> Found
     ensures { result ≡ call_of bytes.now }
 {

@@ -4,8 +4,8 @@
 
 mod bytes;
 pub mod calls;
-mod digits;
 pub mod lines;
 pub mod records;
 pub mod setups;
+mod text;
 pub mod windows;

@@ -1,9 +1,9 @@
 // The text of a line.
 ghost use Rattle.std.specs.Prelude.{List, ◌≡◌, ℕ, ◌+◌, ◌≤◌, length};
-ghost use Rattle.script.specs.Put.{Put};
+ghost use Rattle.script.specs.Put.{Written};
 ghost use Rattle.script.specs.Lines.{start, added, plain_line, value_line, slice_line, missing_line, line_text, line_put};
 
-use crate::digits::{put_byte, put_long_number, put_number};
+use crate::text::Writer;
 
 // A line: what a call was answered, with the values that number 0 brings; or `stop`. A slice's are address, A and B. Of a move, the address
 // that was missing.
@@ -36,97 +36,95 @@ pub enum Line {
 // No line is longer.
 pub const LONGEST: usize = 32;
 
-const BLANK: u8 = 32;
+const BLANK: u8 = b' ';
 
-const NEW_LINE: u8 = 10;
+const NEW_LINE: u8 = b'\n';
 
-// The kind and the number.
-fn put_start(out: &mut [u8], at: usize, kind: u32, number: u32) -> usize
-    requires { at + 11 ≤ length out.old }
-    ensures { Put out.old at (start kind number) 11 result out.new }
-{
-    let end = put_number(out, at, kind);
-    let next = put_byte(out, end, BLANK);
-    put_number(out, next, number)
-}
-
-// A value that number 0 brings.
-fn put_value(out: &mut [u8], at: usize, number: u32, value: u32) -> usize
-    requires { at + 6 ≤ length out.old }
-    ensures { Put out.old at (added number value) 6 result out.new }
-{
-    if number == 0 {
-        let next = put_byte(out, at, BLANK);
-        return put_number(out, next, value);
+impl Writer<'_> {
+    // The kind and the number.
+    fn start(&mut self, kind: u32, number: u32)
+        requires { self.old.at + 11 ≤ length self.old.out.now }
+        ensures { Written self.old (start kind number) 11 self.new }
+    {
+        self.number(kind);
+        self.byte(BLANK);
+        self.number(number);
     }
-    at
-}
 
-fn put_plain_line(out: &mut [u8], at: usize, kind: u32, number: u32) -> usize
-    requires { at + 32 ≤ length out.old }
-    ensures { Put out.old at (plain_line kind number) 32 result out.new }
-{
-    let end = put_start(out, at, kind, number);
-    put_byte(out, end, NEW_LINE)
-}
+    // A value that number 0 brings.
+    #[tactic(auto, using(crate::proofs::Putting::both, crate::proofs::Putting::unwritten), unfolding(crate::specs::Lines::added))]
+    fn added(&mut self, number: u32, value: u32)
+        requires { self.old.at + 6 ≤ length self.old.out.now }
+        ensures { Written self.old (added number value) 6 self.new }
+    {
+        if number == 0 {
+            self.byte(BLANK);
+            self.number(value);
+        }
+    }
 
-fn put_value_line(out: &mut [u8], at: usize, kind: u32, number: u32, value: u32) -> usize
-    requires { at + 32 ≤ length out.old }
-    ensures { Put out.old at (value_line kind number value) 32 result out.new }
-{
-    let start = put_start(out, at, kind, number);
-    let end = put_value(out, start, number, value);
-    put_byte(out, end, NEW_LINE)
-}
+    fn plain_line(&mut self, kind: u32, number: u32)
+        requires { self.old.at + 32 ≤ length self.old.out.now }
+        ensures { Written self.old (plain_line kind number) 32 self.new }
+    {
+        self.start(kind, number);
+        self.byte(NEW_LINE);
+    }
 
-fn put_slice_line(out: &mut [u8], at: usize, number: u32, address: u32, a: u32, b: u32) -> usize
-    requires { at + 32 ≤ length out.old }
-    ensures { Put out.old at (slice_line number address a b) 32 result out.new }
-{
-    let start = put_start(out, at, 4, number);
-    let first = put_value(out, start, number, address);
-    let second = put_value(out, first, number, a);
-    let end = put_value(out, second, number, b);
-    put_byte(out, end, NEW_LINE)
-}
+    fn value_line(&mut self, kind: u32, number: u32, value: u32)
+        requires { self.old.at + 32 ≤ length self.old.out.now }
+        ensures { Written self.old (value_line kind number value) 32 self.new }
+    {
+        self.start(kind, number);
+        self.added(number, value);
+        self.byte(NEW_LINE);
+    }
 
-fn put_missing_line(out: &mut [u8], at: usize, address: u32) -> usize
-    requires { at + 32 ≤ length out.old }
-    ensures { Put out.old at (missing_line address) 32 result out.new }
-{
-    let start = put_start(out, at, 5, 0);
-    let next = put_byte(out, start, BLANK);
-    let end = put_long_number(out, next, address);
-    put_byte(out, end, NEW_LINE)
-}
+    fn slice_line(&mut self, number: u32, address: u32, a: u32, b: u32)
+        requires { self.old.at + 32 ≤ length self.old.out.now }
+        ensures { Written self.old (slice_line number address a b) 32 self.new }
+    {
+        self.start(4, number);
+        self.added(number, address);
+        self.added(number, a);
+        self.added(number, b);
+        self.byte(NEW_LINE);
+    }
 
-fn put_stop(out: &mut [u8], at: usize) -> usize
-    requires { at + 32 ≤ length out.old }
-    ensures { Put out.old at (line_text Line.Stop) 32 result out.new }
-{
-    let s = put_byte(out, at, b's');
-    let t = put_byte(out, s, b't');
-    let o = put_byte(out, t, b'o');
-    let p = put_byte(out, o, b'p');
-    put_byte(out, p, NEW_LINE)
-}
+    fn missing_line(&mut self, address: u32)
+        requires { self.old.at + 32 ≤ length self.old.out.now }
+        ensures { Written self.old (missing_line address) 32 self.new }
+    {
+        self.start(5, 0);
+        self.byte(BLANK);
+        self.long_number(address);
+        self.byte(NEW_LINE);
+    }
 
-fn put_text(out: &mut [u8], at: usize, line: Line) -> usize
-    requires { at + 32 ≤ length out.old }
-    ensures { Put out.old at (line_text line) 32 result out.new }
-{
-    match line {
-        Line::Call { kind, number } => put_plain_line(out, at, kind, number),
-        Line::Read { number, word } => put_value_line(out, at, 3, number, word),
-        Line::Slice {
-            number,
-            address,
-            a,
-            b,
-        } => put_slice_line(out, at, number, address, a, b),
-        Line::Level { number, level } => put_value_line(out, at, 9, number, level),
-        Line::Missing { address } => put_missing_line(out, at, address),
-        Line::Stop => put_stop(out, at),
+    fn stop_line(&mut self)
+        requires { self.old.at + 32 ≤ length self.old.out.now }
+        ensures { Written self.old (line_text Line.Stop) 32 self.new }
+    {
+        self.bytes(b"stop\n");
+    }
+
+    fn line(&mut self, line: Line)
+        requires { self.old.at + 32 ≤ length self.old.out.now }
+        ensures { Written self.old (line_text line) 32 self.new }
+    {
+        match line {
+            Line::Call { kind, number } => self.plain_line(kind, number),
+            Line::Read { number, word } => self.value_line(3, number, word),
+            Line::Slice {
+                number,
+                address,
+                a,
+                b,
+            } => self.slice_line(number, address, a, b),
+            Line::Level { number, level } => self.value_line(9, number, level),
+            Line::Missing { address } => self.missing_line(address),
+            Line::Stop => self.stop_line(),
+        }
     }
 }
 
@@ -135,11 +133,10 @@ pub fn put_line(out: &mut [u8], at: usize, line: Line) -> usize
     ensures fact { ◌≡◌ {A = ℕ × List ℕ} (result, out.new) (line_put out.old at line) }
     ensures within { at ≤ length out.old → result ≤ length out.old }
 {
-    if out.len() < LONGEST {
+    if out.len() < LONGEST || out.len() - LONGEST < at {
         return at;
     }
-    if out.len() - LONGEST < at {
-        return at;
-    }
-    put_text(out, at, line)
+    let mut writer = Writer { out, at };
+    writer.line(line);
+    writer.at
 }

@@ -26,22 +26,19 @@ fn read_record(rest: &[u8], ended: bool) -> Found
     if length > LONGEST {
         return Found::Stop;
     }
-    if rest.len() - 2 < length {
-        return cut_short(ended);
+    match rest.get(2..2 + length) {
+        Some(bytes) => call_of(bytes),
+        None => cut_short(ended),
     }
-    let end = 2 + length;
-    call_of(&rest[2..end])
 }
 
 // What comes next in the input, of which these are the bytes at hand. `ended` says that no more come after them.
+#[tactic(auto, unfolding(crate::specs::Records::next_record))]
 pub fn next_record(rest: &[u8], ended: bool) -> Found
     ensures { result ≡ next_record rest.now ended }
 {
-    if rest.len() == 0 {
-        if ended {
-            return Found::End;
-        }
-        return Found::More;
+    if rest.is_empty() {
+        return if ended { Found::End } else { Found::More };
     }
     read_record(rest, ended)
 }

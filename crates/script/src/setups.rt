@@ -12,19 +12,18 @@ pub const MEMORY: u32 = 64;
 pub const NUMBERS: usize = 1020;
 
 // The four numbers of the unit whose bytes stand from `at` on.
+#[tactic(auto, using(crate::proofs::Runs::laid))]
 fn put_unit(bytes: &[u8], at: usize, numbers: &mut [u32], to: usize)
     requires { (at + 3 ≤ length bytes.now) × (to + 4 ≤ length numbers.old) }
     ensures { numbers.new ≡ sets numbers.old to (unit_at bytes.now at) }
 {
-    let transmitter = byte_at(bytes, at);
-    let receiver = byte_at(bytes, at + 1);
-    let switch = byte_at(bytes, at + 2);
-    numbers[to] = transmitter as u32;
-    numbers[to + 1] = receiver as u32;
-    numbers[to + 2] = switch as u32;
-    numbers[to + 3] = MEMORY;
+    let transmitter = byte_at(bytes, at) as u32;
+    let receiver = byte_at(bytes, at + 1) as u32;
+    let switch = byte_at(bytes, at + 2) as u32;
+    numbers[to..to + 4].copy_from_slice(&[transmitter, receiver, switch, MEMORY]);
 }
 
+// Unit after unit by its number: of what is written through `chunks_exact_mut` the library says no more than how much it is.
 fn put_units(bytes: &[u8], count: usize, numbers: &mut [u32])
     requires { (3 * count ≤ length bytes.now) × (4 * count ≤ length numbers.old) }
     ensures { numbers.new ≡ sets numbers.old 0 (units_at count bytes.now) }
@@ -39,16 +38,11 @@ fn put_units(bytes: &[u8], count: usize, numbers: &mut [u32])
 pub fn put_set_up(window: &[u8], at: usize, count: u8, numbers: &mut [u32]) -> usize
     ensures { ◌≡◌ {A = ℕ × List ℕ} (result, numbers.new) (set_up_put (drop at window.now) count numbers.old) }
 {
-    if window.len() <= at {
-        return 0;
-    }
+    let bytes = window.get(at..).unwrap_or(&[]);
     let units = count as usize;
-    if window.len() - at < 3 * units {
+    if bytes.len() < 3 * units || numbers.len() < 4 * units {
         return 0;
     }
-    if numbers.len() < 4 * units {
-        return 0;
-    }
-    put_units(&window[at..], units, numbers);
+    put_units(bytes, units, numbers);
     4 * units
 }

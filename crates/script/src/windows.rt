@@ -4,19 +4,14 @@ ghost use Rattle.script.specs.Windows.{rest_kept};
 
 // Moves what stands from `at` up to `end` to the front, and answers how many bytes that is. Where `at` and `end` are no such part,
 // nothing is moved, and the answer is 0.
+#[tactic(auto, using(crate::proofs::Runs::copied))]
 pub fn keep_rest(window: &mut [u8], at: usize, end: usize) -> usize
     ensures fact { ◌≡◌ {A = ℕ × List ℕ} (result, window.new) (rest_kept window.old at end) }
     ensures within { result ≤ length window.old }
 {
-    if end < at {
+    if end < at || window.len() < end {
         return 0;
     }
-    if window.len() < end {
-        return 0;
-    }
-    let left = end - at;
-    for i in 0..left {
-        window[i] = window[at + i];
-    }
-    left
+    window.copy_within(at..end, 0);
+    end - at
 }

@@ -9,9 +9,10 @@ use Rattle.transmitter.specs.Side.{has_error}
 use Rattle.transmitter.specs.declared.side.Transmitter.{Transmitter}
 use Rattle.words.specs.Codes.{codes_shown}
 use Rattle.words.specs.declared.lines.Answer.{Answer}
-use Rattle.sending.specs.Chart.{chart_of, close, close_with_error, close_with_success}
+use Rattle.sending.specs.Chart.{chart_of}
 use Rattle.sending.specs.Choice.{code_of}
 use Rattle.sending.specs.Events.{closed, succeeded, failed_to_send, was_rejected, met_busy, restarted, word_accepted, opening}
+use Rattle.sending.specs.declared.chart.Entry.{Entry}
 use Rattle.sending.specs.declared.choice.Choice.{Choice}
 
 -- ---- sending
@@ -55,13 +56,11 @@ acknowledged t Choice.Word restarts = word_heard t restarts
 acknowledged t Choice.Null restarts = t
 
 -- the chart's entry; where it is stay, 11 is an acknowledgement
-abbrev pub followed : Transmitter → Choice → Answer → ℕ → Transmitter
-followed t choice answer entry =
-    pick (eqb entry close) (closed t)
-    (pick (eqb entry close_with_error) (closed (failed_to_send t))
-    (pick (eqb entry close_with_success) (finished t answer.truncated)
-    (pick (eqb answer.code 3) (acknowledged t choice answer.restarts)
-    t)))
+abbrev pub followed : Transmitter → Choice → Answer → Entry → Transmitter
+followed t choice answer Entry.Close = closed t
+followed t choice answer Entry.CloseWithError = closed (failed_to_send t)
+followed t choice answer Entry.CloseWithSuccess = finished t answer.truncated
+followed t choice answer Entry.Stay = pick (eqb answer.code 3) (acknowledged t choice answer.restarts) t
 
 -- "Rules 6 and 7 come over it": rule 6, "T gets SORE and closes"; rule 7, "T becomes ending"
 abbrev pub heard_open : Transmitter → Choice → Answer → Transmitter

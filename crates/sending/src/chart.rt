@@ -2,26 +2,28 @@
 ghost use Rattle.std.specs.Prelude.{◌≡◌, ◌<◌};
 ghost use Rattle.sending.specs.Chart.{chart_of};
 
-pub const STAY: u16 = 0;
+// What the chart says at a code A and a code B.
+#[derive(Clone, Copy, PartialEq, Eq)]
+pub enum Entry {
+    Stay,
+    Close,
+    CloseWithError,
+    CloseWithSuccess,
+}
 
-pub const CLOSE: u16 = 1;
+use Entry::{Close, CloseWithError, CloseWithSuccess, Stay};
 
-pub const CLOSE_WITH_ERROR: u16 = 2;
-
-pub const CLOSE_WITH_SUCCESS: u16 = 3;
-
-const CHART: [[u16; 4]; 4] = [
-    [CLOSE, CLOSE, CLOSE, CLOSE],
-    [CLOSE_WITH_ERROR, STAY, CLOSE_WITH_ERROR, STAY],
-    [CLOSE_WITH_ERROR, STAY, CLOSE_WITH_ERROR, STAY],
-    [CLOSE_WITH_ERROR, STAY, CLOSE_WITH_ERROR, CLOSE_WITH_SUCCESS],
+const CHART: [[Entry; 4]; 4] = [
+    [Close, Close, Close, Close],
+    [CloseWithError, Stay, CloseWithError, Stay],
+    [CloseWithError, Stay, CloseWithError, Stay],
+    [CloseWithError, Stay, CloseWithError, CloseWithSuccess],
 ];
 
-pub fn look_up(a: u16, b: u16) -> u16
+// The chart's entry at a code A and a code B.
+pub fn look_up(a: u16, b: u16) -> Entry
     requires { (a < 4) × (b < 4) }
     ensures { result ≡ chart_of a b }
 {
-    let row = a as usize;
-    let column = b as usize;
-    CHART[row][column]
+    CHART[a as usize][b as usize]
 }

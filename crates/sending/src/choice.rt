@@ -3,10 +3,12 @@ ghost use Rattle.std.specs.Prelude.{◌≡◌};
 ghost use Rattle.sending.specs.Choice.{may_open, all_sent, chosen_open, chosen, acts_on, destination_of, code_of, word_of, is_opening, sent_by};
 
 use ends::raise;
-use transmitter::side::{Transmitter, has_error};
+use ends::sides::Side;
+use transmitter::side::Transmitter;
 use words::lines::{Sent, send};
 
-#[derive(Clone, Copy)]
+// What it sends.
+#[derive(Clone, Copy, PartialEq, Eq)]
 pub enum Choice {
     // It does not act.
     Idle,
@@ -29,7 +31,7 @@ fn may_open(t: Transmitter) -> bool
     ensures { result ≡ may_open t }
 {
     let silo = t.end.silo;
-    t.commands.send_word & !silo.is_empty() & (t.modes.destination != 0) & !has_error(t)
+    t.commands.send_word & !silo.is_empty() & (t.modes.destination != 0) & !t.has_error()
 }
 
 // ST TXM set, no bytes left, silo empty.
@@ -46,7 +48,7 @@ fn choose_open(t: Transmitter) -> Choice
 {
     let wants = t.commands.start_transmission | t.commands.send_word;
     let full = t.end.block == 128;
-    if has_error(t) {
+    if t.has_error() {
         return Choice::Stopped;
     }
     if t.channel.ending {
@@ -84,15 +86,7 @@ pub fn choose(t: Transmitter) -> Choice
 pub fn acts(choice: Choice) -> bool
     ensures { result ≡ acts_on choice }
 {
-    match choice {
-        Choice::Idle => false,
-        Choice::Opening => true,
-        Choice::Stopped => true,
-        Choice::LastCrc => true,
-        Choice::DueCrc => true,
-        Choice::Word => true,
-        Choice::Null => true,
-    }
+    choice != Choice::Idle
 }
 
 // The receiver that it addresses: the destination of the moment, and once open the latched one.
@@ -110,13 +104,10 @@ pub fn code(choice: Choice) -> u16
     ensures { result ≡ code_of choice }
 {
     match choice {
-        Choice::Idle => 0,
-        Choice::Opening => 2,
-        Choice::Stopped => 0,
-        Choice::LastCrc => 3,
-        Choice::DueCrc => 2,
-        Choice::Word => 2,
+        Choice::Idle | Choice::Stopped => 0,
         Choice::Null => 1,
+        Choice::Opening | Choice::DueCrc | Choice::Word => 2,
+        Choice::LastCrc => 3,
     }
 }
 
@@ -125,15 +116,10 @@ fn word(t: Transmitter, choice: Choice) -> u16
     ensures { result ≡ word_of t choice }
 {
     let silo = t.end.silo;
-    let crc = t.end.crc;
     match choice {
-        Choice::Idle => 0,
-        Choice::Opening => silo.oldest(),
-        Choice::Stopped => 0,
-        Choice::LastCrc => crc,
-        Choice::DueCrc => crc,
-        Choice::Word => silo.oldest(),
-        Choice::Null => 0,
+        Choice::Opening | Choice::Word => silo.oldest(),
+        Choice::LastCrc | Choice::DueCrc => t.end.crc,
+        Choice::Idle | Choice::Stopped | Choice::Null => 0,
     }
 }
 
@@ -141,15 +127,7 @@ fn word(t: Transmitter, choice: Choice) -> u16
 fn is_opening(choice: Choice) -> bool
     ensures { result ≡ is_opening choice }
 {
-    match choice {
-        Choice::Opening => true,
-        Choice::Idle => false,
-        Choice::Stopped => false,
-        Choice::LastCrc => false,
-        Choice::DueCrc => false,
-        Choice::Word => false,
-        Choice::Null => false,
-    }
+    choice == Choice::Opening
 }
 
 // With an opening word goes the serial of the opening.

@@ -1,47 +1,42 @@
 // What a transmitter makes of the answer to what it sent.
 ghost use Rattle.std.specs.Prelude.{◌≡◌, ◌<◌, ◌≤◌};
-ghost use Rattle.sending.specs.Hearing.{after_sending, showing, finished, word_heard, acknowledged, ending_now, followed, heard_open, heard_closed, heard_acting, heard};
+ghost use Rattle.sending.specs.Hearing.{after_sending, finished, word_heard, acknowledged, ending_now, followed, heard_open, heard_closed, heard_acting, heard};
 
-use crate::chart::{CLOSE, CLOSE_WITH_ERROR, CLOSE_WITH_SUCCESS, look_up};
+use crate::chart::{Entry, look_up};
 use crate::choice::{Choice, code};
 use crate::events::{
     accept_word, be_rejected, close, fail_to_send, meet_busy, open_channel, restart, succeed,
 };
-use transmitter::requests::settle;
-use transmitter::side::{Transmitter, has_error};
+use ends::sides::Side;
+use transmitter::side::{Channel, Transmitter};
 use words::lines::Answer;
 
-// Sending the last CRC makes it ending, and a due CRC makes it await the verdict.
+// Truncation, or the last CRC sent: it becomes ending.
+fn end(t: Transmitter) -> Transmitter
+    ensures { result ≡ ending_now t }
+{
+    let channel = Channel {
+        ending: true,
+        ..t.channel
+    };
+    Transmitter { channel, ..t }
+}
+
+// A due CRC sent: it awaits the verdict.
 fn mark_sent(t: Transmitter, choice: Choice) -> Transmitter
     ensures { result ≡ after_sending t choice }
 {
-    let mut next = t;
     match choice {
-        Choice::LastCrc => {
-            next.channel.ending = true;
-            next
-        }
+        Choice::LastCrc => end(t),
         Choice::DueCrc => {
-            next.channel.awaiting = true;
-            next
+            let channel = Channel {
+                awaiting: true,
+                ..t.channel
+            };
+            Transmitter { channel, ..t }
         }
-        Choice::Idle => t,
-        Choice::Opening => t,
-        Choice::Stopped => t,
-        Choice::Word => t,
-        Choice::Null => t,
+        _ => t,
     }
-}
-
-// Bits 0 to 3 of TSR: the codes of this slice, unless an error stood before it.
-fn show_codes(t: Transmitter, a: u16, b: u16) -> Transmitter
-    ensures { result ≡ showing t a b }
-{
-    let mut end = t.end;
-    end.shown = end.shown.show(has_error(t), a, b);
-    let mut next = t;
-    next.end = end;
-    next
 }
 
 // Success, with SORE if the message was truncated.
@@ -73,41 +68,26 @@ fn hear_acknowledge(t: Transmitter, choice: Choice, restarts: bool) -> Transmitt
     match choice {
         Choice::Word => hear_word(t, restarts),
         Choice::DueCrc => restart(t),
-        Choice::Idle => t,
-        Choice::Opening => t,
-        Choice::Stopped => t,
-        Choice::LastCrc => t,
-        Choice::Null => t,
+        _ => t,
     }
-}
-
-// Truncation: it becomes ending.
-fn end(t: Transmitter) -> Transmitter
-    ensures { result ≡ ending_now t }
-{
-    let mut next = t;
-    next.channel.ending = true;
-    next
 }
 
 // What the chart's entry says. Where it says stay, 11 is an acknowledgement.
-fn follow(t: Transmitter, choice: Choice, answer: Answer, entry: u16) -> Transmitter
+fn follow(t: Transmitter, choice: Choice, answer: Answer, entry: Entry) -> Transmitter
     requires { t.end.block ≤ 128 }
     ensures { result ≡ followed t choice answer entry }
 {
-    if entry == CLOSE {
-        return close(t);
+    match entry {
+        Entry::Close => close(t),
+        Entry::CloseWithError => close(fail_to_send(t)),
+        Entry::CloseWithSuccess => finish(t, answer.truncated),
+        Entry::Stay => {
+            if answer.code == 3 {
+                return hear_acknowledge(t, choice, answer.restarts);
+            }
+            t
+        }
     }
-    if entry == CLOSE_WITH_ERROR {
-        return close(fail_to_send(t));
-    }
-    if entry == CLOSE_WITH_SUCCESS {
-        return finish(t, answer.truncated);
-    }
-    if answer.code == 3 {
-        return hear_acknowledge(t, choice, answer.restarts);
-    }
-    t
 }
 
 // An open transmitter follows the chart. The receiver's rules 6 and 7 come over it.
@@ -144,11 +124,7 @@ fn hear_acting(t: Transmitter, choice: Choice, answer: Answer) -> Transmitter
     match choice {
         Choice::Idle => t,
         Choice::Opening => hear_closed(t, answer.code),
-        Choice::Stopped => hear_open(t, Choice::Stopped, answer),
-        Choice::LastCrc => hear_open(t, Choice::LastCrc, answer),
-        Choice::DueCrc => hear_open(t, Choice::DueCrc, answer),
-        Choice::Word => hear_open(t, Choice::Word, answer),
-        Choice::Null => hear_open(t, Choice::Null, answer),
+        _ => hear_open(t, choice, answer),
     }
 }
 
@@ -158,6 +134,6 @@ pub fn hear(t: Transmitter, choice: Choice, answer: Answer) -> Transmitter
     ensures { result ≡ heard t choice answer }
 {
     let sent = mark_sent(t, choice);
-    let shown = show_codes(sent, code(choice), answer.code);
-    settle(hear_acting(shown, choice, answer))
+    let shown = sent.show_codes(code(choice), answer.code);
+    hear_acting(shown, choice, answer).settle()
 }

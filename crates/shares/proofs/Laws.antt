@@ -1,4 +1,5 @@
 pub mod ArrangeLaws
+pub mod ChainLaws
 pub mod LargestLaws
 pub mod PlanLaws
 pub mod SpreadLaws

@@ -1,12 +1,12 @@
 // A list for the address silo out of a load.
-ghost use Rattle.std.specs.Prelude.{Bool, List, ◌≡◌, ℕ, ◌≤◌, length};
+ghost use Rattle.std.specs.Prelude.{Bool, List, Result, ◌≡◌, ℕ, ◌≤◌, length};
 ghost use Rattle.shares.specs.Outcomes.{PlanOutcome};
 ghost use Rattle.shares.specs.Plan.{spread_tried, planned, answer_of};
 ghost use Rattle.shares.specs.Wanted.{shares_in};
 ghost use Rattle.shares.specs.Laws.Rooms.{ExactRoom, Ready};
-ghost use Rattle.shares.specs.declared.answers.Plan.{Plan};
+ghost use Rattle.shares.specs.declared.answers.PlanError.{PlanError};
 
-use crate::answers::Plan;
+use crate::answers::PlanError;
 use crate::arranging::arrange;
 use crate::lists::is_loadable;
 use crate::spreading::spread_out;
@@ -39,41 +39,39 @@ fn put_list(wanted: &[u16], most: Share, list: &mut [u16])
 }
 
 // The first refusal that fits, or the list, where there is room for every list.
-fn answer(wanted: &[u16], list: &mut [u16]) -> Plan
+fn answer(wanted: &[u16], list: &mut [u16]) -> Result<u16, PlanError>
     requires { 50 ≤ length list.old }
-    ensures { ◌≡◌ {A = Plan × List ℕ} (result, list.new) (answer_of (shares_in wanted.now) list.old) }
+    ensures { ◌≡◌ {A = Result ℕ PlanError × List ℕ} (result, list.new) (answer_of (shares_in wanted.now) list.old) }
 {
     if any_outside(wanted) {
-        return Plan::OutsideAddress;
+        return Err(PlanError::OutsideAddress);
     }
     if any_twice(wanted) {
-        return Plan::NamedTwice;
+        return Err(PlanError::NamedTwice);
     }
     let total = total_up_to_51(wanted);
-    if total < 20 {
-        return Plan::WrongTotal;
-    }
-    if total > 50 {
-        return Plan::WrongTotal;
+    if !(20..=50).contains(&total) {
+        return Err(PlanError::WrongTotal);
     }
     let most = largest_of(wanted);
     if total / 2 < most.turns {
-        return Plan::NoSuchList;
+        return Err(PlanError::NoSuchList);
     }
-    let end = total as usize;
+    let end = usize::from(total);
     put_list(wanted, most, &mut list[..end]);
-    Plan::Listed(total)
+    Ok(total)
 }
 
-// Plans a list: `wanted` has two numbers for each transmitter, its address and its turns.
-pub fn plan(wanted: &[u16], list: &mut [u16]) -> Plan
+/// Plans a list: `wanted` has two numbers for each transmitter, its address and its turns. The answer is the list's length, or why there is
+/// none; the list stands at the front of `list`, and the words past it stay as they were. A refusal leaves all of it as it was.
+pub fn plan(wanted: &[u16], list: &mut [u16]) -> Result<u16, PlanError>
     ensures { PlanOutcome wanted.now list.old (result, list.new) }
 {
     if list.len() < ROOM {
-        return Plan::NoRoom;
+        return Err(PlanError::NoRoom);
     }
     if wanted.len() % 2 != 0 {
-        return Plan::NoRoom;
+        return Err(PlanError::NoRoom);
     }
     answer(wanted, list)
 }

@@ -4,9 +4,10 @@ ghost use Rattle.shares.specs.Spreading.{turn_of, may_have, due_first, goes_firs
 ghost use Rattle.shares.specs.Wanted.{shares_in};
 
 use crate::lists::{count_in, last_of};
-use crate::wanted::{Share, share_at, shares_in};
+use crate::wanted::{Share, shares_in};
+use std::cmp::Ordering;
 
-// The next turn of a transmitter: its number, from 1 on, and whether it has come.
+/// The next turn of a transmitter: its number, from 1 on, and whether it has come.
 #[derive(Clone, Copy)]
 pub struct Turn {
     pub address: u16,
@@ -18,92 +19,105 @@ pub struct Turn {
 fn times(a: u16, b: u16) -> u32
     ensures { result ≡ a * b }
 {
-    (a as u32) * (b as u32)
+    u32::from(a) * u32::from(b)
 }
 
-fn turn_of(total: u16, early: u16, front: &[u16], share: Share) -> Turn
-    requires { (length front.now ≤ 50) × (early ≤ 1) }
-    ensures { result ≡ turn_of total early front.now share }
-{
-    let had = count_in(front, share.address);
-    let place = front.len() as u16 + early;
-    let come = times(had, total) <= times(place, share.turns);
-    Turn {
-        address: share.address,
-        turns: share.turns,
-        number: had + 1,
-        come,
-    }
-}
-
+// Whether a transmitter may have the turn: it has one left, and was not the last to have one.
 fn may_have(last: u16, turn: Turn) -> bool
     ensures { result ≡ may_have last turn }
 {
-    (turn.number <= turn.turns) & (turn.address != last)
+    turn.number <= turn.turns && turn.address != last
 }
 
+// Whether a turn is due before another; of two that are due together, the larger share's is.
 fn due_first(turn: Turn, best: Turn) -> bool
     ensures { result ≡ due_first turn best }
 {
-    let mine = times(turn.number, best.turns);
-    let other = times(best.number, turn.turns);
-    if mine < other {
-        return true;
+    match times(turn.number, best.turns).cmp(&times(best.number, turn.turns)) {
+        Ordering::Less => true,
+        Ordering::Greater => false,
+        Ordering::Equal => best.turns < turn.turns,
     }
-    if other < mine {
-        return false;
-    }
-    best.turns < turn.turns
 }
 
+// Whether a turn goes before another: one that has come before one that has not.
 fn goes_first(turn: Turn, best: Turn) -> bool
     ensures { result ≡ goes_first turn best }
 {
-    if turn.come & !best.come {
-        return true;
+    match (turn.come, best.come) {
+        (true, false) => true,
+        (false, true) => false,
+        _ => due_first(turn, best),
     }
-    if best.come & !turn.come {
-        return false;
-    }
-    due_first(turn, best)
 }
 
 fn better_of(last: u16, best: Turn, turn: Turn) -> Turn
     ensures { result ≡ better last best turn }
 {
-    if may_have(last, turn) & goes_first(turn, best) {
-        return turn;
+    if may_have(last, turn) && goes_first(turn, best) {
+        turn
+    } else {
+        best
     }
-    best
 }
 
-fn next_address(wanted: &[u16], total: u16, early: u16, front: &[u16]) -> u16
-    requires { (length front.now ≤ 50) × (early ≤ 1) }
-    ensures { result ≡ next_address total early (shares_in wanted.now) front.now }
-{
-    let last = last_of(front);
-    let shares = shares_in(wanted);
-    let mut best = Turn {
-        address: 0,
-        turns: 0,
-        number: 1,
-        come: false,
-    };
-    for place in 0..shares {
-        let turn = turn_of(total, early, front, share_at(wanted, place));
-        best = better_of(last, best, turn);
-    }
-    best.address
+/// A list as far as it is filled, and what decides the next address: how many turns there are in all, and how many places before it must
+/// a turn may come.
+#[derive(Clone, Copy)]
+struct Front<'a> {
+    addresses: &'a [u16],
+    total: u16,
+    early: u16,
+    ghost small: { (length addresses.now ≤ 50) × (early ≤ 1) },
 }
 
-// A list of as many places as there are turns, each turn coming `early` places before it must.
+impl Front<'_> {
+    // The next turn of a transmitter.
+    fn turn_of(&self, share: Share) -> Turn
+        ensures { result ≡ turn_of self.now.total self.now.early self.now.addresses.now share }
+    {
+        let had = count_in(self.addresses, share.address) as u16;
+        let place = self.addresses.len() as u16 + self.early;
+        let come = times(had, self.total) <= times(place, share.turns);
+        Turn {
+            address: share.address,
+            turns: share.turns,
+            number: had + 1,
+            come,
+        }
+    }
+
+    // The address of the turn that goes before all others.
+    fn next_address(&self, wanted: &[u16]) -> u16
+        ensures { result ≡ next_address self.now.total self.now.early (shares_in wanted.now) self.now.addresses.now }
+    {
+        let last = last_of(self.addresses);
+        let none = Turn {
+            address: 0,
+            turns: 0,
+            number: 1,
+            come: false,
+        };
+        let best = shares_in(wanted).fold(none, |best, share| {
+            better_of(last, best, self.turn_of(share))
+        });
+        best.address
+    }
+}
+
+/// Fills a list of as many places as there are turns, each turn coming `early` places before it must.
 pub fn spread_out(wanted: &[u16], early: u16, list: &mut [u16])
     requires { (length list.old ≤ 50) × (early ≤ 1) }
     ensures { list.new ≡ spread (length list.old) early (shares_in wanted.now) (length list.old) }
 {
     let total = list.len() as u16;
+    // By the place: each address comes from those that stand before it in the same list.
     for place in 0..list.len() {
-        let next = next_address(wanted, total, early, &list[..place]);
-        list[place] = next;
+        let front = Front {
+            addresses: &list[..place],
+            total,
+            early,
+        };
+        list[place] = front.next_address(wanted);
     }
 }

@@ -22,10 +22,8 @@ fn shift(cells: &mut [u16])
     requires { 1 ≤ length cells.old }
     ensures { cells.new ≡ shifted cells.old }
 {
+    cells.copy_within(1.., 0);
     let last = cells.len() - 1;
-    for i in 0..last {
-        cells[i] = cells[i + 1];
-    }
     cells[last] = 0;
 }
 
@@ -65,6 +63,14 @@ impl Silo {
         ensures { result ≡ count self }
     {
         self.held
+    }
+
+    // The words, the oldest first.
+    pub fn words(&self) -> &[u16]
+        requires { self.now.held ≤ 64 }
+        ensures { result.now ≡ words self.now }
+    {
+        &self.cells[..self.held as usize]
     }
 
     // The word that is i-th from the oldest on, counted from 0, or 0 where there is none.

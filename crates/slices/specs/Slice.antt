@@ -1,8 +1,7 @@
 -- Document 01, One slice: T, what it sends, R's answer, and what T makes of it.
 -- Assumes nothing.
 use Rattle.std.specs.Prelude.{Bool, ℕ}
-use Rattle.answering.specs.Rules.{answered_by}
-use Rattle.answering.specs.declared.rules.Answered.{Answered}
+use Rattle.answering.specs.Rules.{Answered, answered_by}
 use Rattle.laws.specs.Pick.{pick}
 use Rattle.receiver.specs.declared.side.Receiver.{Receiver}
 use Rattle.sending.specs.Choice.{acts_on, chosen, code_of, sent_by}

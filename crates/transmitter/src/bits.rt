@@ -4,35 +4,26 @@ ghost use Rattle.transmitter.specs.Bits.{control_of, status_of, commands_in, mod
 ghost use Rattle.transmitter.specs.Side.{Within};
 
 use crate::side::{Commands, Faults, Modes, Outcome, Transmitter};
-use words::bits::{bit_at, bits_at, tcr, tsr};
+use words::bits::{bit_at, bits_at, set_at, tcr, tsr};
 
 // ---- out
 
-// Each part of the sum fits since the whole does: that is why this asks for the whole. The flags are taken out first, since a
-// cast of a field would carry what is known of the whole record along.
+// Each part of the sum fits since the whole does: that is why this asks for the whole.
 fn control_sum(t: Transmitter, extension: u16, at_init: bool, at_ready: bool) -> u16
     requires { control_of t extension at_init at_ready < 65536 }
     ensures { result ≡ control_of t extension at_init at_ready }
 {
-    let start_transmission = t.commands.start_transmission;
-    let inhibit_increment = t.modes.inhibit_increment;
-    let interrupt_enable = t.modes.interrupt_enable;
-    let read_silo = t.modes.read_silo;
-    let destination = t.modes.destination;
-    let send_word = t.commands.send_word;
-    let memory_requests = t.modes.memory_requests;
-    let retry_if_busy = t.modes.retry_if_busy;
-    start_transmission as u16 * (1 << tcr::ST_TXM)
-        + at_init as u16 * (1 << tcr::TX_INIT)
-        + inhibit_increment as u16 * (1 << tcr::INH_ADI)
-        + at_ready as u16 * (1 << tcr::DT_O_RDY)
+    set_at(tcr::ST_TXM, t.commands.start_transmission)
+        + set_at(tcr::TX_INIT, at_init)
+        + set_at(tcr::INH_ADI, t.modes.inhibit_increment)
+        + set_at(tcr::DT_O_RDY, at_ready)
         + extension * (1 << tcr::EA16)
-        + interrupt_enable as u16 * (1 << tcr::IE)
-        + read_silo as u16 * (1 << tcr::RD_SILO)
-        + destination * (1 << tcr::DC_00)
-        + send_word as u16 * (1 << tcr::SND_WD)
-        + memory_requests as u16 * (1 << tcr::TX_NPR)
-        + retry_if_busy as u16 * (1 << tcr::RIB)
+        + set_at(tcr::IE, t.modes.interrupt_enable)
+        + set_at(tcr::RD_SILO, t.modes.read_silo)
+        + t.modes.destination * (1 << tcr::DC_00)
+        + set_at(tcr::SND_WD, t.commands.send_word)
+        + set_at(tcr::TX_NPR, t.modes.memory_requests)
+        + set_at(tcr::RIB, t.modes.retry_if_busy)
 }
 
 // TCR, with EA17 and EA16, and with what stands at TX INIT and at DT O RDY.
@@ -48,31 +39,21 @@ fn status_sum(t: Transmitter, at_busy: bool, at_ready: bool, at_error: bool) -> 
     requires { status_of t at_busy at_ready at_error < 65536 }
     ensures { result ≡ status_of t at_busy at_ready at_error }
 {
-    let a = t.end.shown.a;
-    let b = t.end.shown.b;
-    let bus_busy = t.outcome.bus_busy;
-    let software_reject = t.outcome.software_reject;
-    let success = t.outcome.success;
-    let overrun = t.faults.overrun;
-    let time_out = t.faults.time_out;
-    let master_down = t.faults.master_down;
-    let transmission_error = t.faults.transmission_error;
-    let memory_overflow = t.faults.memory_overflow;
-    let nonexistent_location = t.faults.nonexistent_location;
-    a * (1 << tsr::RSP_A_0)
-        + b * (1 << tsr::RSP_B_0)
-        + bus_busy as u16 * (1 << tsr::TBS_BSY)
-        + software_reject as u16 * (1 << tsr::SORE)
-        + at_busy as u16 * (1 << tsr::BUSY)
-        + success as u16 * (1 << tsr::SUC_TXF)
-        + at_ready as u16 * (1 << tsr::DTIRDY)
-        + overrun as u16 * (1 << tsr::OVERUN)
-        + time_out as u16 * (1 << tsr::TIM_OUT)
-        + master_down as u16 * (1 << tsr::MST_DWN)
-        + transmission_error as u16 * (1 << tsr::TXM_ERR)
-        + memory_overflow as u16 * (1 << tsr::MEM_OFL)
-        + nonexistent_location as u16 * (1 << tsr::NXL)
-        + at_error as u16 * (1 << tsr::ERR)
+    let shown = t.end.shown;
+    shown.a * (1 << tsr::RSP_A_0)
+        + shown.b * (1 << tsr::RSP_B_0)
+        + set_at(tsr::TBS_BSY, t.outcome.bus_busy)
+        + set_at(tsr::SORE, t.outcome.software_reject)
+        + set_at(tsr::BUSY, at_busy)
+        + set_at(tsr::SUC_TXF, t.outcome.success)
+        + set_at(tsr::DTIRDY, at_ready)
+        + set_at(tsr::OVERUN, t.faults.overrun)
+        + set_at(tsr::TIM_OUT, t.faults.time_out)
+        + set_at(tsr::MST_DWN, t.faults.master_down)
+        + set_at(tsr::TXM_ERR, t.faults.transmission_error)
+        + set_at(tsr::MEM_OFL, t.faults.memory_overflow)
+        + set_at(tsr::NXL, t.faults.nonexistent_location)
+        + set_at(tsr::ERR, at_error)
 }
 
 // TSR, with what stands at BUSY, at DTIRDY and at ERR.

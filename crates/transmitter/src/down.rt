@@ -2,8 +2,8 @@
 ghost use Rattle.std.specs.Prelude.{◌≡◌};
 ghost use Rattle.transmitter.specs.Down.{misses_master, master_missed};
 
-use crate::requests::fail;
-use crate::side::Transmitter;
+use crate::side::{Faults, Transmitter};
+use ends::sides::Side;
 
 // Whether it wants to send.
 pub fn misses_master(t: Transmitter) -> bool
@@ -17,9 +17,10 @@ pub fn miss_master(t: Transmitter) -> Transmitter
     ensures { result ≡ master_missed t }
 {
     if misses_master(t) {
-        let mut faults = t.faults;
-        faults.master_down = true;
-        return fail(t, faults);
+        return t.fail(Faults {
+            master_down: true,
+            ..t.faults
+        });
     }
     t
 }

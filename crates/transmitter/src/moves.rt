@@ -3,18 +3,15 @@ ghost use Rattle.std.specs.Prelude.{◌≡◌, ◌≤◌, length};
 ghost use Rattle.transmitter.specs.Moves.{may_move, nonexistent, missed_at, word_loaded, overflowed, advanced, moved};
 ghost use Rattle.transmitter.specs.Side.{Within};
 
-use crate::requests::fail;
-use crate::side::{Transmitter, has_error};
+use crate::side::{Faults, Modes, Transmitter};
+use ends::End;
+use ends::sides::{Answered, Side};
 use silos::WORDS;
-use words::address::Place;
-use words::answers::Move;
+use words::answers::Refusal;
 use words::load::Advance;
 
-#[derive(Clone, Copy)]
-pub struct Moved {
-    pub side: Transmitter,
-    pub answer: Move,
-}
+// The transmitter after a move, and the answer: an address comes with NXL alone.
+pub type Moved = Answered<Transmitter, Result<Option<u32>, Refusal>>;
 
 // Whether there is something to move, and room for it.
 pub fn may_move(t: Transmitter) -> bool
@@ -24,7 +21,7 @@ pub fn may_move(t: Transmitter) -> bool
     let load = t.end.load;
     t.modes.memory_requests
         & load.loaded
-        & !has_error(t)
+        & !t.has_error()
         & silo.has_room(WORDS)
         & !t.modes.read_silo
         & !t.channel.ending
@@ -34,18 +31,19 @@ pub fn may_move(t: Transmitter) -> bool
 fn miss(t: Transmitter) -> Transmitter
     ensures { result ≡ nonexistent t }
 {
-    let mut faults = t.faults;
-    faults.nonexistent_location = true;
-    fail(t, faults)
+    t.fail(Faults {
+        nonexistent_location: true,
+        ..t.faults
+    })
 }
 
 // NXL, and the address tried with it.
 fn miss_at(t: Transmitter, tried: u32) -> Moved
     ensures { result ≡ missed_at t tried }
 {
-    Moved {
+    Answered {
         side: miss(t),
-        answer: Move::Missing(tried),
+        answer: Ok(Some(tried)),
     }
 }
 
@@ -53,23 +51,30 @@ fn miss_at(t: Transmitter, tried: u32) -> Moved
 fn overflow(t: Transmitter) -> Transmitter
     ensures { result ≡ overflowed t }
 {
-    let mut faults = t.faults;
-    faults.memory_overflow = true;
-    fail(t, faults)
+    t.fail(Faults {
+        memory_overflow: true,
+        ..t.faults
+    })
 }
 
 // The word is loaded, and the count and the address have gone on. Count 0 clears TX NPR.
 fn take_word(t: Transmitter, word: u16, advance: Advance) -> Transmitter
     ensures { result ≡ advanced t word advance }
 {
+    let silo = t.end.silo;
     let load = advance.load;
-    let requests = t.modes.memory_requests & load.loaded;
-    let mut end = t.end;
-    end.silo = end.silo.put(WORDS, word);
-    end.load = load;
-    let mut next = t;
-    next.end = end;
-    next.modes.memory_requests = requests;
+    let next = Transmitter {
+        end: End {
+            silo: silo.put(WORDS, word),
+            load,
+            ..t.end
+        },
+        modes: Modes {
+            memory_requests: t.modes.memory_requests & load.loaded,
+            ..t.modes
+        },
+        ..t
+    };
     if advance.overflow {
         return overflow(next);
     }
@@ -91,19 +96,19 @@ pub fn move_word(t: Transmitter, memory: &[u16], fitted: usize) -> Moved
     ensures { result ≡ moved t memory.now fitted }
 {
     if !may_move(t) {
-        return Moved {
+        return Answered {
             side: t,
-            answer: Move::Nothing,
+            answer: Err(Refusal::Nothing),
         };
     }
     let load = t.end.load;
     let address = load.address;
     let place = address.place(fitted);
     match place {
-        Place::Inside(at) => Moved {
+        Ok(at) => Answered {
             side: load_word(t, memory[at]),
-            answer: Move::Done,
+            answer: Ok(None),
         },
-        Place::Outside(tried) => miss_at(t, tried),
+        Err(tried) => miss_at(t, tried),
     }
 }

@@ -1,6 +1,7 @@
 -- Document 01, Registers: what a write of a transmitter's register does.
 -- Assumes nothing.
-use Rattle.std.specs.Prelude.{Bool, true, not, ◌&&◌, ◌||◌, ℕ, eqb}
+use Rattle.std.specs.Prelude.{Bool, true, not, ◌&&◌, ◌||◌, ℕ, eqb, Result, Ok, Err}
+use Rattle.ends.specs.declared.sides.Answered.{Answered}
 use Rattle.laws.specs.Bits.{bits, bit_at}
 use Rattle.laws.specs.Pick.{pick}
 use Rattle.silos.specs.Silo.{put}
@@ -11,6 +12,7 @@ use Rattle.words.specs.Load.{count_loaded, extension_loaded, low_loaded}
 use Rattle.words.specs.Bits.TCR
 use Rattle.words.specs.Bits.TSR
 use Rattle.words.specs.declared.answers.Write.{Write}
+use Rattle.words.specs.declared.answers.Refusal.{Refusal}
 use Rattle.transmitter.specs.Bits.{commands_in, modes_in, faults_in, outcome_in}
 use Rattle.transmitter.specs.Fields.{with_overrun, with_nonexistent_location}
 use Rattle.transmitter.specs.Groups.{with_silo, with_load, with_shown, with_commands, with_modes, with_faults, with_outcome}
@@ -19,7 +21,10 @@ use Rattle.transmitter.specs.Side.{has_error, data_in_ready}
 use Rattle.transmitter.specs.declared.side.Faults.{Faults}
 use Rattle.transmitter.specs.declared.side.Transmitter.{Transmitter}
 use Rattle.transmitter_registers.specs.Reading.{show_of}
-use Rattle.transmitter_registers.specs.declared.registers.Written.{Written}
+
+-- a transmitter after a write, and the answer
+abbrev pub Written : Type 0
+Written = Answered Transmitter (Result Write Refusal)
 
 -- ---- TCR
 
@@ -65,8 +70,8 @@ status_written t word = request_raised t (status_set t word)
 -- "TSDB write: taken if DTIRDY ..; else 6." "TSDB: OVERUN set, with its request". It adds nothing to TSBC (reading 7).
 abbrev pub data_written : Transmitter → ℕ → Written
 data_written t word =
-    pick (data_in_ready t) (record { side = with_silo t (put 64 t.end.silo word); answer = Write.Done })
-    (record { side = failed t (with_overrun t.faults true); answer = Write.Dropped })
+    pick (data_in_ready t) (record { side = with_silo t (put 64 t.end.silo word); answer = Ok Write.Done })
+    (record { side = failed t (with_overrun t.faults true); answer = Ok Write.Dropped })
 
 -- ---- TSBC and TSBA: bit 0 reads back 0 (reading 6)
 
@@ -79,7 +84,7 @@ address_written t word = with_load t (low_loaded t.end.load word)
 -- ---- all registers
 
 abbrev done : Transmitter → Written
-done t = record { side = t; answer = Write.Done }
+done t = record { side = t; answer = Ok Write.Done }
 
 -- "Writing .. TSCRC .. changes nothing."
 abbrev pub written : Transmitter → ℕ → ℕ → Written
@@ -90,7 +95,7 @@ written t offset word =
     (pick (eqb offset 6) (done (count_written t word))
     (pick (eqb offset 8) (done (address_written t word))
     (pick (eqb offset 12) (done t)
-    (record { side = t; answer = Write.NoRegister }))))))
+    (record { side = t; answer = Err Refusal.NoRegister }))))))
 
 -- the registers that a write changes: TCR, TSR, TSDB, TSBC and TSBA
 abbrev pub changes : ℕ → Bool
@@ -100,7 +105,7 @@ changes offset = eqb offset 0 || eqb offset 2 || eqb offset 4 || eqb offset 6 ||
 -- marks TSBC loaded (reading 6)
 abbrev pub byte_written : Transmitter → ℕ → ℕ → Written
 byte_written t offset byte =
-    pick (eqb (even_below offset) 4) (record { side = t; answer = Write.ByteRefused })
+    pick (eqb (even_below offset) 4) (record { side = t; answer = Err Refusal.ByteRefused })
     (written t (even_below offset) (with_half (read_word (show_of t (even_below offset))) offset byte))
 
 -- and those that a byte written changes

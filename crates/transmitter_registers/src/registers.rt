@@ -5,23 +5,18 @@ ghost use Rattle.transmitter_registers.specs.Reading.{data_read, show_of, read_o
 ghost use Rattle.transmitter_registers.specs.Writing.{initialises, written, byte_written, changes, changes_byte};
 
 use crate::shown::{control_word, status_word};
-use crate::writes::{write_address, write_control, write_count, write_data, write_status};
+use crate::writes::{write_control, write_data, write_status};
+use ends::sides::{Answered, Side, written};
 use transmitter::side::Transmitter;
-use words::answers::{Read, Write, word_read};
+use words::answers::{Refusal, Write, word_read};
 use words::bits::{bit_at, tcr};
 use words::halves::{register_offset, with_half};
 
-#[derive(Clone, Copy)]
-pub struct Reading {
-    pub side: Transmitter,
-    pub answer: Read,
-}
+// The transmitter after a read, and the answer.
+pub type Reading = Answered<Transmitter, Result<u16, Refusal>>;
 
-#[derive(Clone, Copy)]
-pub struct Written {
-    pub side: Transmitter,
-    pub answer: Write,
-}
+// The transmitter after a write, and the answer.
+pub type Written = Answered<Transmitter, Result<Write, Refusal>>;
 
 // ---- reading
 
@@ -29,26 +24,11 @@ pub struct Written {
 fn read_data(t: Transmitter) -> Reading
     ensures { result ≡ data_read t }
 {
-    let silo = t.end.silo;
-    if silo.is_empty() {
-        return Reading {
-            side: t,
-            answer: Read::Nothing,
-        };
-    }
-    let answer = Read::Word(silo.oldest());
-    if t.modes.read_silo {
-        let mut end = t.end;
-        end.silo = silo.take();
-        let mut next = t;
-        next.end = end;
-        return Reading { side: next, answer };
-    }
-    Reading { side: t, answer }
+    t.read_oldest(t.modes.read_silo)
 }
 
 // What a register other than TSDB shows.
-fn show(t: Transmitter, offset: u32) -> Read
+fn show(t: Transmitter, offset: u32) -> Result<u16, Refusal>
     requires { Within t }
     ensures { result ≡ show_of t offset }
 {
@@ -56,15 +36,16 @@ fn show(t: Transmitter, offset: u32) -> Read
     let count = load.count;
     let address = load.address;
     match offset {
-        0 => Read::Word(control_word(t)),
-        2 => Read::Word(status_word(t)),
-        6 => Read::Word(count.0),
-        8 => Read::Word(address.low()),
-        12 => Read::Word(t.end.crc),
-        _ => Read::NoRegister,
+        0 => Ok(control_word(t)),
+        2 => Ok(status_word(t)),
+        6 => Ok(count.0),
+        8 => Ok(address.low()),
+        12 => Ok(t.end.crc),
+        _ => Err(Refusal::NoRegister),
     }
 }
 
+// A word read: the transmitter after it, and what it shows or why it is refused.
 pub fn read(t: Transmitter, offset: u32) -> Reading
     requires { Within t }
     ensures { result ≡ read_of t offset }
@@ -72,7 +53,7 @@ pub fn read(t: Transmitter, offset: u32) -> Reading
     if offset == 4 {
         return read_data(t);
     }
-    Reading {
+    Answered {
         side: t,
         answer: show(t, offset),
     }
@@ -95,35 +76,21 @@ pub fn asks_init(word: u16) -> bool
     bit_at(word, tcr::TX_INIT)
 }
 
+// A word written: the transmitter after it, and the answer. A write of TSCRC changes nothing.
 pub fn write(t: Transmitter, offset: u32, word: u16) -> Written
     requires { Within t }
     ensures { result ≡ written t offset word }
 {
     match offset {
-        0 => Written {
-            side: write_control(t, word),
-            answer: Write::Done,
-        },
-        2 => Written {
-            side: write_status(t, word),
-            answer: Write::Done,
-        },
+        0 => written(write_control(t, word)),
+        2 => written(write_status(t, word)),
         4 => write_data(t, word),
-        6 => Written {
-            side: write_count(t, word),
-            answer: Write::Done,
-        },
-        8 => Written {
-            side: write_address(t, word),
-            answer: Write::Done,
-        },
-        12 => Written {
+        6 => written(t.write_count(word)),
+        8 => written(t.write_address(word)),
+        12 => written(t),
+        _ => Answered {
             side: t,
-            answer: Write::Done,
-        },
-        _ => Written {
-            side: t,
-            answer: Write::NoRegister,
+            answer: Err(Refusal::NoRegister),
         },
     }
 }
@@ -132,7 +99,7 @@ pub fn write(t: Transmitter, offset: u32, word: u16) -> Written
 pub fn changes(offset: u32) -> bool
     ensures { result ≡ changes offset }
 {
-    (offset == 0) | (offset == 2) | (offset == 4) | (offset == 6) | (offset == 8)
+    matches!(offset, 0 | 2 | 4 | 6 | 8)
 }
 
 // A byte is written as its register's word with that half changed; a byte of TSDB is refused.
@@ -142,9 +109,9 @@ pub fn write_byte(t: Transmitter, offset: u32, byte: u8) -> Written
 {
     let register = register_offset(offset);
     if register == 4 {
-        return Written {
+        return Answered {
             side: t,
-            answer: Write::ByteRefused,
+            answer: Err(Refusal::ByteRefused),
         };
     }
     let before = word_read(show(t, register));

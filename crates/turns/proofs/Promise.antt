@@ -1,6 +1,6 @@
 -- What is promised of a planned list on the whole link: it starts, and each transmitter gets its share of the slices.
 -- Assumes nothing.
-use Rattle.std.specs.Prelude.{true, false, List, [], ◌∷◌, ◌≡◌, refl, ℕ, ◌+◌, ◌-◌, ◌*◌, ◌/◌, ◌%◌, ◌^◌, ◌≤◌, ◌<◌, length, get_or, take}
+use Rattle.std.specs.Prelude.{true, false, List, [], ◌∷◌, ◌≡◌, refl, ℕ, ◌+◌, ◌-◌, ◌*◌, ◌/◌, ◌%◌, ◌^◌, ◌≤◌, ◌<◌, length, get_or, take, Result, Ok}
 use Rattle.std.proofs.Common.{ap, subst, sym, ◌∙◌, arith, le-ltb, lit<}
 use Rattle.std.proofs.Math.Path.{subst⁻¹}
 use Rattle.std.proofs.lemmas.Bool.{eqb-false}
@@ -19,7 +19,7 @@ use Rattle.shares.specs.Lists.{count}
 use Rattle.shares.specs.Numbers.{plan_number}
 use Rattle.shares.proofs.Promise.{Answered, answers_a_list}
 use Rattle.shares.specs.Wanted.{shares_in, turns_for}
-use Rattle.shares.specs.declared.answers.Plan.{Plan}
+use Rattle.shares.specs.declared.answers.PlanError.{PlanError}
 use Rattle.shares.proofs.Laws.PlanLaws.{asked_by}
 use Rattle.words.specs.Bits.TMMR as Bits
 use Rattle.turns.specs.Addresses.{addresses, slices_in}
@@ -90,13 +90,13 @@ module _ (unit : ℕ) (w : World) (ranged : in_range w.cells ≡ true) (fitted :
 
 -- ---- a list that was planned
 
-module _ (wanted room after : List ℕ) (n : ℕ) (plan : PlanOutcome wanted room (Plan.Listed n, after)) where
+module _ (wanted room after : List ℕ) (n : ℕ) (plan : PlanOutcome wanted room (Ok n, after)) where
   abbrev pub list : List ℕ
   list = take n after
 
   asked : Asked wanted room
   asked =
-      asked_by wanted room 0 (ap (λ (o : Plan × List ℕ). plan_number o.0) (sym plan)) (λ q. omega arith) (λ q. omega arith) (λ q. omega arith)
+      asked_by wanted room 0 (ap (λ (o : Result ℕ PlanError × List ℕ). plan_number o.0) (sym plan)) (λ q. omega arith) (λ q. omega arith) (λ q. omega arith)
       (λ q. omega arith)
 
   planned : Answered wanted room n after

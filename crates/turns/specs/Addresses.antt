@@ -1,14 +1,15 @@
 -- The addresses that the slices of a run answer.
 -- Assumes nothing.
-use Rattle.std.specs.Prelude.{List, [], ◌∷◌, ◌++◌, ℕ, ◌+◌, eqb, ltb}
+use Rattle.std.specs.Prelude.{List, [], ◌∷◌, ◌++◌, ℕ, ◌+◌, eqb, ltb, Result, Option}
 use Rattle.laws.specs.Pick.{pick}
 use Rattle.pcl.specs.Link.{slice_call}
 use Rattle.pcl.specs.Numbers.{slice_number, slice_value, address_of}
-use Rattle.pcl.specs.declared.answers.SliceCall.{SliceCall}
 use Rattle.promise.specs.World.{World, Event, fit, write, write_byte, read, slice, move, period, reset, level, serial, host_write, step}
+use Rattle.words.specs.declared.answers.Refusal.{Refusal}
+use Rattle.bus.specs.declared.slice.Given.{Given}
 
 -- a slice call answered 0 has one
-abbrev pub answered : SliceCall → List ℕ
+abbrev pub answered : Result (Option Given) Refusal → List ℕ
 answered call = pick (eqb (slice_number call) 0) (address_of (slice_value call) ∷ []) []
 
 abbrev pub address_in : Event → World → List ℕ

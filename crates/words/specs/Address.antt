@@ -1,10 +1,8 @@
 -- Document 01, Registers: "TSBA or RDBA with EA17, EA16 is an 18-bit byte address, bit 0 dropped."
 -- Assumes nothing.
-use Rattle.std.specs.Prelude.{ℕ, ◌+◌, ◌-◌, ◌*◌, ◌/◌, ◌%◌, ◌^◌, Bool, ◌==◌, nat_lt}
+use Rattle.std.specs.Prelude.{ℕ, ◌+◌, ◌-◌, ◌*◌, ◌/◌, ◌%◌, ◌^◌, Bool, ◌==◌, nat_lt, Result, Ok, Err}
 use Rattle.laws.specs.Pick.{pick}
 use Rattle.words.specs.declared.address.Address.{Address}
-use Rattle.words.specs.declared.address.Place.{Place}
-use Rattle.words.specs.declared.address.Place.TheVariants.{Inside, Outside}
 
 abbrev pub at : ℕ → Address
 at address = record { 0 = address }
@@ -31,5 +29,5 @@ next_address address = (address + 2) % 2 ^ 18
 
 -- the word that an address names in a memory of so many words; or it is "outside the memory", and then "the 18-bit byte address it tried"
 -- (document 02, No. 3)
-abbrev pub place_of : ℕ → ℕ → Place
-place_of address memory = pick (nat_lt (address / 2) memory) (Inside (address / 2)) (Outside address)
+abbrev pub place_of : ℕ → ℕ → Result ℕ ℕ
+place_of address memory = pick (nat_lt (address / 2) memory) (Ok (address / 2)) (Err address)

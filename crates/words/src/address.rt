@@ -3,15 +3,8 @@ ghost use Rattle.std.specs.Prelude.{◌≡◌, ◌<◌};
 ghost use Rattle.words.specs.Address.{at, address_of, next_address, is_last, low_of, extension_of, place_of};
 
 // Below 2^18, and even: it names a word.
-#[derive(Clone, Copy)]
+#[derive(Clone, Copy, Default)]
 pub struct Address(pub u32);
-
-// Where an address lies in a host memory: at a word of it, or nowhere, and then the 18-bit byte address itself.
-#[derive(Clone, Copy)]
-pub enum Place {
-    Inside(usize),
-    Outside(u32),
-}
 
 impl Address {
     // Made of its two parts: bit 0 is dropped.
@@ -51,15 +44,11 @@ impl Address {
         Address((self.0 + 2) % 262144)
     }
 
-    // The word of a memory of so many words that the address names, or the address that names none.
-    pub fn place(self, memory: usize) -> Place
+    // The word of a memory of so many words that the address names, or the address itself, which names none.
+    pub fn place(self, memory: usize) -> Result<usize, u32>
         ensures { result ≡ place_of self.0 memory }
     {
         let word = (self.0 / 2) as usize;
-        if word < memory {
-            Place::Inside(word)
-        } else {
-            Place::Outside(self.0)
-        }
+        if word < memory { Ok(word) } else { Err(self.0) }
     }
 }

@@ -3,7 +3,7 @@ ghost use Rattle.std.specs.Prelude.{◌≡◌};
 ghost use Rattle.words.specs.Codes.{no_codes, codes_shown, codes_cleared};
 
 // A and B, 0 to 3 each.
-#[derive(Clone, Copy)]
+#[derive(Clone, Copy, Default)]
 pub struct Codes {
     pub a: u16,
     pub b: u16,
@@ -13,7 +13,7 @@ impl Codes {
     pub fn none() -> Codes
         ensures { result ≡ no_codes }
     {
-        Codes { a: 0, b: 0 }
+        Codes::default()
     }
 
     // After a slice with these codes. They are frozen where an error stood before it.
@@ -25,6 +25,7 @@ impl Codes {
         }
         Codes { a, b }
     }
+
     // Cleared by SUC TXF.
     pub fn clear(self, success: bool) -> Codes
         ensures { result ≡ codes_cleared self success }

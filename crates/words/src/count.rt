@@ -4,7 +4,7 @@ ghost use Rattle.std.specs.Prelude.{◌≡◌, ◌≤◌};
 ghost use Rattle.words.specs.Count.{count_written, count_after_word, words_of, minus_bytes_of};
 
 // What TSBC and RDBC hold: minus the bytes left, in 16 bits.
-#[derive(Clone, Copy)]
+#[derive(Clone, Copy, Default)]
 pub struct ByteCount(pub u16);
 
 // A number of words, 0 to 32,768.
@@ -23,7 +23,7 @@ impl ByteCount {
     pub fn after_word(self) -> ByteCount
         ensures { result ≡ count_after_word self }
     {
-        ByteCount(std::num::wrapping_add_u16(self.0, 2))
+        ByteCount(self.0.wrapping_add(2))
     }
 
     // The words left at a count that is loaded.

@@ -17,7 +17,7 @@ pub struct Sent {
 
 // The code B, and what the receiver tells beside it: that it rejects or truncates the message, that its count of 128 restarts,
 // that the message which ends here was truncated.
-#[derive(Clone, Copy)]
+#[derive(Clone, Copy, Default)]
 pub struct Answer {
     pub code: u16,
     pub rejects: bool,
@@ -44,19 +44,14 @@ pub fn damage(sent: Sent, mask: u16, parity: bool) -> Sent
 {
     if parity {
         return Sent {
-            code: sent.code,
             word: sent.word ^ mask,
             parity: !sent.parity,
-            opening: sent.opening,
-            serial: sent.serial,
+            ..sent
         };
     }
     Sent {
-        code: sent.code,
         word: sent.word ^ mask,
-        parity: sent.parity,
-        opening: sent.opening,
-        serial: sent.serial,
+        ..sent
     }
 }
 
@@ -66,9 +61,6 @@ pub fn give(code: u16) -> Answer
 {
     Answer {
         code,
-        rejects: false,
-        truncates: false,
-        restarts: false,
-        truncated: false,
+        ..Answer::default()
     }
 }

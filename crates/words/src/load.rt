@@ -5,7 +5,7 @@ ghost use Rattle.words.specs.Load.{Bounded, no_load, words_left, count_loaded, l
 use crate::address::Address;
 use crate::count::{ByteCount, WordCount};
 
-#[derive(Clone, Copy)]
+#[derive(Clone, Copy, Default)]
 pub struct Load {
     pub count: ByteCount,
     pub loaded: bool,
@@ -23,11 +23,7 @@ impl Load {
     pub fn none() -> Load
         ensures { result ≡ no_load }
     {
-        Load {
-            count: ByteCount(0),
-            loaded: false,
-            address: Address(0),
-        }
+        Load::default()
     }
 
     // A written 0 means 65,536 bytes; not loaded, none left.
@@ -35,8 +31,7 @@ impl Load {
         ensures { result.0 ≡ words_left self }
     {
         if self.loaded {
-            let count = self.count;
-            return count.words();
+            return self.count.words();
         }
         WordCount(0)
     }
@@ -45,11 +40,10 @@ impl Load {
     pub fn with_count(self, word: u16) -> Load
         ensures { result ≡ count_loaded self word }
     {
-        let address = self.address;
         Load {
             count: ByteCount::written(word),
             loaded: true,
-            address,
+            ..self
         }
     }
 
@@ -58,12 +52,9 @@ impl Load {
         requires { Bounded self }
         ensures { result ≡ low_loaded self word }
     {
-        let count = self.count;
-        let address = self.address;
         Load {
-            count,
-            loaded: self.loaded,
-            address: Address::of(address.extension(), word),
+            address: Address::of(self.address.extension(), word),
+            ..self
         }
     }
 
@@ -72,12 +63,9 @@ impl Load {
         requires { extension < 4 }
         ensures { result ≡ extension_loaded self extension }
     {
-        let count = self.count;
-        let address = self.address;
         Load {
-            count,
-            loaded: self.loaded,
-            address: Address::of(extension, address.low()),
+            address: Address::of(extension, self.address.low()),
+            ..self
         }
     }
 
@@ -86,16 +74,14 @@ impl Load {
         requires { Bounded self }
         ensures { result ≡ word_moved self inhibit }
     {
-        let before = self.count;
-        let count = before.after_word();
+        let count = self.count.after_word();
         let loaded = count.0 != 0;
-        let address = self.address;
         if inhibit {
             return Advance {
                 load: Load {
                     count,
                     loaded,
-                    address,
+                    ..self
                 },
                 overflow: false,
             };
@@ -104,9 +90,9 @@ impl Load {
             load: Load {
                 count,
                 loaded,
-                address: address.next(),
+                address: self.address.next(),
             },
-            overflow: address.is_last(),
+            overflow: self.address.is_last(),
         }
     }
 }

@@ -6,12 +6,12 @@ ghost use Rattle.words.specs.Parity.{parity_of, good_parity};
 pub fn parity_line(word: u16) -> bool
     ensures { result ≡ parity_of word }
 {
-    u16::count_ones(word) % 2 == 0
+    word.count_ones() % 2 == 0
 }
 
 // Whether the ones on the data lines and on the parity line, counted together, are odd.
 pub fn parity_is_good(word: u16, line: bool) -> bool
     ensures { result ≡ good_parity word line }
 {
-    (u16::count_ones(word) + line as u32) % 2 == 1
+    (word.count_ones() + u32::from(line)) % 2 == 1
 }

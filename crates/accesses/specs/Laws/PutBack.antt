@@ -2,7 +2,7 @@
 -- rule, and the answer with the cells. `found` is the side as a run had it and `side` as the definition has it; `gave` and
 -- `asked` are what the rule and the test gave.
 -- Assumes nothing.
-use Rattle.std.specs.Prelude.{Bool, true, false, ◌≡◌}
+use Rattle.std.specs.Prelude.{Bool, true, false, ◌≡◌, List, ℕ}
 use Rattle.std.proofs.Common.{ap, ◌∙◌}
 use Rattle.laws.specs.Pick.{pick, past, here}
 
@@ -16,3 +16,12 @@ module _ {S W X : Type 0} (test : S → Bool) (rule : S → W) (after : W → X)
 -- what a rule gave of two things as a run had them, of these as the definition has them
 pub as_defined : {A B X : Type 0} (rule : A → B → X) {x : X} {a a' : A} {b b' : B} → x ≡ rule a b → a ≡ a' → b ≡ b' → x ≡ rule a' b'
 as_defined rule e p q = rw (p, q) at (e)
+
+-- what a function on a fitted unit answers and leaves is what one on the cells does
+pub at_cells : {A : Type 0} (f : List ℕ → ℕ → A × List ℕ) {answer : A} {after left before cells : List ℕ} {number unit : ℕ} → after ≡ left → before ≡ cells → number ≡ unit
+    → (answer, left) ≡ f before number → (answer, after) ≡ f cells unit
+at_cells f e p q is = rw (e, ← p, ← q) is
+
+pub left_at_cells : (f : List ℕ → ℕ → List ℕ) {after left before cells : List ℕ} {number unit : ℕ} → after ≡ left → before ≡ cells → number ≡ unit
+    → left ≡ f before number → after ≡ f cells unit
+left_at_cells f e p q is = rw (e, ← p, ← q) is

@@ -7,9 +7,8 @@ use Rattle.words.specs.Lines.{answered}
 use Rattle.words.specs.declared.lines.Answer.{Answer}
 use Rattle.words.specs.declared.lines.Sent.{Sent}
 use Rattle.answering.specs.Events.{showing, closed, parity_failed, transmission_failed, reject_completed, succeeded, word_stored, opening, crc_taken, restarted, truncated_now}
-use Rattle.answering.specs.Rules.{answered_as}
+use Rattle.answering.specs.Rules.{Answered, answered_as}
 use Rattle.answering.specs.declared.choice.Rule.{Rule}
-use Rattle.answering.specs.declared.rules.Answered.{Answered}
 
 -- the answer; a message that ends was truncated, or not
 abbrev pub told_by : Rule → Bool → Answer

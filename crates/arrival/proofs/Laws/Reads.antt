@@ -1,10 +1,9 @@
 -- What receiving finds at a unit: what reads of RSR, RCR and RDBA give there, and the serial of its receiver. They leave every cell.
 -- Assumes nothing.
-use Rattle.std.specs.Prelude.{Bool, true, false, not, List, ◌≡◌, refl, ℕ, leb}
+use Rattle.std.specs.Prelude.{Bool, true, false, not, List, ◌≡◌, refl, ℕ, leb, Ok, Result}
 use Rattle.std.proofs.Common.{ap, ap₂, sym, ◌∙◌, arith, leb-false}
 use Rattle.accesses.specs.Reading.{unit_read}
 use Rattle.board.specs.Receive.{address_in, complete_in, standing}
-use Rattle.board.specs.declared.receiving.Stood.{Stood}
 use Rattle.board.proofs.Laws.ReceivedLaws.{words_stood}
 use Rattle.cells.specs.Fitted.{receiver_of}
 use Rattle.cells.specs.Layout.{count_in}
@@ -14,14 +13,12 @@ use Rattle.laws.specs.Pick.{by, past}
 use Rattle.pcl.specs.Calls.{read_by, read_call}
 use Rattle.pcl.specs.Numbers.{read_call_number, read_call_word}
 use Rattle.pcl.specs.Sides.{serial_call}
-use Rattle.pcl.specs.declared.answers.ReadCall.{ReadCall}
-use Rattle.pcl.specs.declared.answers.SerialCall.{SerialCall}
 use Rattle.receiver.specs.Side as R
 use Rattle.receiver.specs.declared.side.Receiver.{Receiver}
 use Rattle.receiver_registers.specs.Shown.{control_word, status_word}
 use Rattle.words.specs.Address.{extension_of, low_of}
-use Rattle.words.specs.declared.answers.Read.{Read}
 use Rattle.words.specs.Laws.Registers.{control_back}
+use Rattle.words.specs.declared.answers.Refusal.{Refusal}
 
 -- the word that a read gives
 abbrev pub shown : List ℕ → ℕ → ℕ → ℕ
@@ -48,11 +45,11 @@ module _ (cells : List ℕ) (unit : ℕ) (is : Ready cells unit) where
   abbrev address : ℕ
   address = r.end.load.address.0
 
-  read_is : (offset word : ℕ) → unit_read cells unit offset ≡ (Read.Word word, cells) → read_call cells unit offset ≡ (ReadCall.Register (Read.Word word), cells)
+  read_is : (offset word : ℕ) → unit_read cells unit offset ≡ (Ok word, cells) → read_call cells unit offset ≡ (Ok word, cells)
   read_is offset word e = sym (past _ (ap not is.ranged) (past _ is.fitted refl)) ∙ ap read_by e
 
-  word_is : (offset word : ℕ) → unit_read cells unit offset ≡ (Read.Word word, cells) → shown cells unit offset ≡ word
-  word_is offset word e = ap (λ (p : ReadCall × List ℕ). read_call_word p.0) (read_is offset word e)
+  word_is : (offset word : ℕ) → unit_read cells unit offset ≡ (Ok word, cells) → shown cells unit offset ≡ word
+  word_is offset word e = ap (λ (p : Result ℕ Refusal × List ℕ). read_call_word p.0) (read_is offset word e)
 
   -- EA17 and EA16 in RCR, and RDBA: the address of the load
   address_is : address_in (control_word r) (low_of address) ≡ address
@@ -64,8 +61,8 @@ module _ (cells : List ℕ) (unit : ℕ) (is : Ready cells unit) where
       (control_word r) refl 4 in
       omega (arith, back)
 
-  number_is : (offset word : ℕ) → unit_read cells unit offset ≡ (Read.Word word, cells) → read_call_number (read_call cells unit offset).0 ≡ 0
-  number_is offset word e = ap (λ (p : ReadCall × List ℕ). read_call_number p.0) (read_is offset word e)
+  number_is : (offset word : ℕ) → unit_read cells unit offset ≡ (Ok word, cells) → read_call_number (read_call cells unit offset).0 ≡ 0
+  number_is offset word e = ap (λ (p : Result ℕ Refusal × List ℕ). read_call_number p.0) (read_is offset word e)
 
   pub control_answered : read_call_number (read_call cells unit 16).0 ≡ 0
   control_answered = number_is 16 (control_word r) refl
@@ -76,14 +73,14 @@ module _ (cells : List ℕ) (unit : ℕ) (is : Ready cells unit) where
   pub address_shown : address_in (shown cells unit 16) (shown cells unit 24) ≡ address
   address_shown = ap₂ address_in (word_is 16 (control_word r) refl) (word_is 24 (low_of address) refl) ∙ address_is
 
-  pub serial_is : serial_call cells unit 1 ≡ SerialCall.Serial r.end.serial
+  pub serial_is : serial_call cells unit 1 ≡ Ok r.end.serial
   serial_is = sym (past _ (ap not is.ranged) (past _ is.fitted refl))
 
   pub standing_is :
       standing cells unit
-      ≡ (Stood.At (record { complete = complete_in (shown cells unit 18); end = address; serial = r.end.serial }), cells)
+      ≡ (Ok (record { complete = complete_in (shown cells unit 18); end = address; serial = r.end.serial }), cells)
   standing_is =
       words_stood cells unit (status_word r) (control_word r) (low_of address) r.end.serial cells cells cells (read_is 18 (status_word r) refl)
       (read_is 16 (control_word r) refl) (read_is 24 (low_of address) refl) serial_is
-      ∙ ap₂ (λ (complete : Bool) (end : ℕ). (Stood.At (record { complete = complete; end = end; serial = r.end.serial }), cells))
+      ∙ ap₂ (λ (complete : Bool) (end : ℕ). (Ok (record { complete = complete; end = end; serial = r.end.serial }), cells))
       (ap complete_in (sym (word_is 18 (status_word r) refl))) address_is

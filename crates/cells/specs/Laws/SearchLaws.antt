@@ -1,23 +1,24 @@
 -- What the search for a unit says of the one that it finds, and of those before it.
 -- Assumes nothing.
-use Rattle.std.specs.Prelude.{Bool, List, ◌≡◌}
+use Rattle.std.specs.Prelude.{Bool, List, ◌≡◌, Option, Some, None, unwrap_or}
 use Rattle.std.proofs.Math.Bool.{true, false}
 use Rattle.std.proofs.Math.Logic.{⊎_elim}
 use Rattle.std.proofs.Math.Path.{refl}
 use Rattle.std.proofs.Common.{sym, ap, ◌∙◌, eq-or-lt_of_le, lit<}
 use Prim.Native.Nat.{ℕ, zero, suc, ◌+◌, ◌≤◌, ◌<◌}
 use native.Mathlib.Omega.{arith}
-use borrow.Author.Tests.{eqb-true, eqb-false, ne_eqb}
-use Rattle.std.proofs.Math.Dec.{eqb}
+use Rattle.std.proofs.lemmas.Option.{none-some}
+use borrow.Author.Tests.{eqb-true, eqb-false, ltb-true, ltb-false, le-ltb, lt-ltb, ne_eqb}
+use Rattle.std.proofs.Math.Dec.{eqb, ltb}
 use Rattle.codec.specs.Masters.{SECTION, SEC}
 use Rattle.codec.specs.Laws.WindowLaws.{cell_window}
 use Rattle.laws.specs.Bits.{bit, on, bit_at}
-use Rattle.laws.specs.Pick.{pick}
+use Rattle.laws.specs.Pick.{pick, here, past, by}
 use Rattle.laws.specs.Laws.Fields.{bit_on}
 use Rattle.cells.specs.Fitted.{Fitted, master_of}
 use Rattle.cells.specs.Layout.{count_in, master_place, secondary_in}
 use Rattle.cells.specs.Ranges.{in_range}
-use Rattle.cells.specs.Search.{first_found, first_secondary}
+use Rattle.cells.specs.Search.{named, first_found, first_secondary}
 use Rattle.cells.specs.Laws.RangeLaws.{fitted as counted_fitted}
 
 -- ---- a test inside a definition is taken apart by a helper that is handed the test's value and its equation
@@ -99,3 +100,33 @@ secondary_agrees cells after count same =
   where
     secondary_bit : (l : List ℕ) (k : ℕ) → secondary_in l k ≡ bit (master_of l k).secondary
     secondary_bit l k = sym (ap bit (secondary_is l k) ∙ bit_on _)
+
+-- ---- the unit of a number, and the number of a unit or of none
+
+pub named_unit : (n : ℕ) → n < 16 → Some n ≡ named n
+named_unit n h = here None (lt-ltb n 16 h) refl
+
+pub named_number : (n : ℕ) → n ≤ 16 → unwrap_or (named n) 16 ≡ n
+named_number n most =
+    by (ltb n 16)
+    (λ near. rw near refl)
+    (λ far. rw far (omega (arith, ltb-false n 16 far)))
+
+pub named_is : (n u : ℕ) → Some u ≡ named n → (u ≡ n) × (n < 16)
+named_is n u is =
+    by (ltb n 16)
+    (λ near.
+    let same : Some u ≡ Some n = is ∙ rw near refl in
+    (ap (λ (o : Option ℕ). unwrap_or o u) same, ltb-true n 16 near))
+    (λ far. absurd (none-some u (sym (is ∙ rw far refl))))
+
+pub named_none : (n : ℕ) → None ≡ named n → 16 ≤ n
+named_none n is = by (ltb n 16) (λ near. absurd (none-some n (is ∙ rw near refl))) (λ far. ltb-false n 16 far)
+
+-- what is done at the unit of a number, and what where it is none's
+module _ {X : Type 0} (at : ℕ → X) (other : X) (n : ℕ) where
+  pub at_unit : (u : ℕ) → Some u ≡ named n → at u ≡ pick (ltb n 16) (at n) other
+  at_unit u is = here other (lt-ltb n 16 (named_is n u is).1) (ap at (named_is n u is).0)
+
+  pub at_none : None ≡ named n → other ≡ pick (ltb n 16) (at n) other
+  at_none is = past (at n) (le-ltb n 16 (named_none n is)) refl

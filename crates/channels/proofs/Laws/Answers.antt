@@ -4,9 +4,8 @@ use Rattle.std.specs.Prelude.{Bool, true, false, not, ◌&&◌, ◌||◌, [], �
 use Rattle.std.proofs.Common.{true≢false, inl, inr, ap, ap₂, sym, ◌∙◌, arith, eqb-true}
 use Rattle.std.proofs.lemmas.Bool.{false≢true, eqb-false, not-false, not-true}
 use Rattle.answering.specs.Choice.{open_with_another, reopening, may_open, closing_fault, rejecting, truncating, decided_crc, decided_by_code, decided_open}
-use Rattle.answering.specs.Rules.{answered_as, answered_by}
+use Rattle.answering.specs.Rules.{Answered, answered_as, answered_by}
 use Rattle.answering.specs.declared.choice.Rule.{Rule}
-use Rattle.answering.specs.declared.rules.Answered.{Answered}
 use Rattle.laws.specs.Pick.{by, either}
 use Rattle.laws.specs.Laws.Both.{left_of, right_of}
 use Rattle.receiver.specs.Side.{has_error, data_in_ready, data_out_ready}

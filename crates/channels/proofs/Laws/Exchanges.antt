@@ -6,9 +6,8 @@ use Rattle.std.proofs.lemmas.Bool.{false≢true, not-false}
 use Rattle.std.proofs.Math.Path.{subst⁻¹}
 use Rattle.std.specs.Int.Bits.{bit_xor}
 use Rattle.answering.specs.Choice.{open_with_another}
-use Rattle.answering.specs.Rules.{answered_by}
+use Rattle.answering.specs.Rules.{Answered, answered_by}
 use Rattle.answering.proofs.Laws.Keeps.{later_untouched}
-use Rattle.answering.specs.declared.rules.Answered.{Answered}
 use Rattle.laws.specs.Pick.{by, either, here}
 use Rattle.receiver.specs.declared.side.Receiver.{Receiver}
 use Rattle.sending.specs.Choice.{acts_on, chosen, code_of, destination_of, is_opening, sent_by}

@@ -6,10 +6,11 @@ use Rattle.std.proofs.lemmas.Bool.{false≢true, eqb-false}
 use Rattle.std.proofs.Math.Path.{subst⁻¹}
 use Rattle.laws.specs.Pick.{either, here, past}
 use Rattle.laws.specs.Laws.Both.{both, left_of}
-use Rattle.sending.specs.Chart.{chart_of, close, close_with_error, close_with_success}
+use Rattle.sending.specs.Chart.{chart_of}
+use Rattle.sending.specs.declared.chart.Entry.{Entry}
 use Rattle.sending.specs.Choice.{acts_on, chosen, chosen_open, code_of, destination_of, is_opening, wants_on, all_sent, may_open, sent_by}
 use Rattle.sending.specs.Events.{restarted, word_accepted}
-use Rattle.sending.specs.Hearing.{acknowledged, after_sending, heard, heard_closed, heard_open, showing}
+use Rattle.sending.specs.Hearing.{acknowledged, after_sending, followed, heard, heard_closed, heard_open, showing}
 use Rattle.sending.specs.declared.choice.Choice.{Choice}
 use Rattle.transmitter.specs.Side.{has_error}
 use Rattle.silos.specs.Silo.{is_empty, oldest}
@@ -43,15 +44,18 @@ module _ (t : Transmitter) where
       either (Still t) restarts (λ e. still_accepted (restarted t) (still_same t)) (λ e. still_accepted t (still_same t))
   still_acknowledged Choice.Null restarts = still_same t
 
+  still_followed : (choice : Choice) (answer : Answer) (entry : Entry) → Still t (followed t choice answer entry)
+  still_followed choice answer Entry.Close = λ o. absurd (false≢true o)
+  still_followed choice answer Entry.CloseWithError = λ o. absurd (false≢true o)
+  still_followed choice answer Entry.CloseWithSuccess =
+      either (Still t) answer.truncated (λ e o. absurd (false≢true o)) (λ e o. absurd (false≢true o))
+  still_followed choice answer Entry.Stay =
+      either (Still t) (eqb answer.code 3) (λ e. still_acknowledged choice answer.restarts) (λ e. still_same t)
+
   pub still_open : (choice : Choice) (answer : Answer) → Still t (heard_open t choice answer)
   still_open choice answer =
-      let entry = chart_of (code_of choice) answer.code in
       either (Still t) answer.rejects (λ e o. absurd (false≢true o))
-      (λ e. either (Still t) answer.truncates (λ e. still_same t)
-      (λ e. either (Still t) (eqb entry close) (λ e o. absurd (false≢true o))
-      (λ e. either (Still t) (eqb entry close_with_error) (λ e o. absurd (false≢true o))
-      (λ e. either (Still t) (eqb entry close_with_success) (λ e. either (Still t) answer.truncated (λ e o. absurd (false≢true o)) (λ e o. absurd (false≢true o)))
-      (λ e. either (Still t) (eqb answer.code 3) (λ e. still_acknowledged choice answer.restarts) (λ e. still_same t))))))
+      (λ e. either (Still t) answer.truncates (λ e. still_same t) (λ e. still_followed choice answer (chart_of (code_of choice) answer.code)))
 
   -- 01 leaves the count
   abbrev Counted : Transmitter → Type 0
@@ -60,15 +64,17 @@ module _ (t : Transmitter) where
   not_three : (n : ℕ) → n ≡ 1 → eqb n 3 ≡ true → ⊥
   not_three n one three = omega (arith, one, eqb-true n 3 three)
 
+  count_followed : (choice : Choice) (answer : Answer) → answer.code ≡ 1 → (entry : Entry) → Counted (followed t choice answer entry)
+  count_followed choice answer one Entry.Close = refl
+  count_followed choice answer one Entry.CloseWithError = refl
+  count_followed choice answer one Entry.CloseWithSuccess = either Counted answer.truncated (λ e. refl) (λ e. refl)
+  count_followed choice answer one Entry.Stay =
+      either Counted (eqb answer.code 3) (λ three. absurd (not_three answer.code one three)) (λ e. refl)
+
   count_stays : (choice : Choice) (answer : Answer) → answer.code ≡ 1 → Counted (heard_open t choice answer)
   count_stays choice answer one =
-      let entry = chart_of (code_of choice) answer.code in
       either Counted answer.rejects (λ e. refl)
-      (λ e. either Counted answer.truncates (λ e. refl)
-      (λ e. either Counted (eqb entry close) (λ e. refl)
-      (λ e. either Counted (eqb entry close_with_error) (λ e. refl)
-      (λ e. either Counted (eqb entry close_with_success) (λ e. either Counted answer.truncated (λ e. refl) (λ e. refl))
-      (λ e. either Counted (eqb answer.code 3) (λ three. absurd (not_three answer.code one three)) (λ e. refl))))))
+      (λ e. either Counted answer.truncates (λ e. refl) (λ e. count_followed choice answer one (chart_of (code_of choice) answer.code)))
 
   count_closed : (answer : Answer) → answer.code ≡ 1 → Counted (heard_closed t answer.code)
   count_closed answer one =

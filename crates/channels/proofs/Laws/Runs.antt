@@ -1,6 +1,6 @@
 -- What holds after every run of calls from a fit.
 -- Assumes nothing.
-use Rattle.std.specs.Prelude.{Bool, true, false, not, ◌&&◌, ◌||◌, List, [], ◌∷◌, ◌≡◌, refl, ℕ, ◌+◌, ◌%◌, ◌≤◌, ◌<◌, eqb}
+use Rattle.std.specs.Prelude.{Bool, true, false, not, ◌&&◌, ◌||◌, List, [], ◌∷◌, ◌≡◌, refl, ℕ, ◌+◌, ◌%◌, ◌≤◌, ◌<◌, eqb, Result, Ok, Option}
 use Rattle.std.proofs.Common.{true≢false, ⊎_elim, ap, ap₂, sym, ◌∙◌, arith, eqb-true}
 use Rattle.std.proofs.lemmas.Bool.{false≢true, not-true}
 use Rattle.cells.specs.Layout.{count_in}
@@ -11,8 +11,6 @@ use Rattle.laws.specs.Pick.{by, either, pick}
 use Rattle.laws.specs.Laws.Both.{left_of, right_of}
 use Rattle.pcl.specs.Link.{slice_call}
 use Rattle.pcl.specs.Numbers.{address_of, slice_number, slice_value}
-use Rattle.pcl.specs.declared.answers.SerialCall.{SerialCall}
-use Rattle.pcl.specs.declared.answers.SliceCall.{SliceCall}
 use Rattle.ends.specs.Ends.{raised}
 use Rattle.promise.proofs.Laws.RegisterReads.{serial_is}
 use Rattle.promise.specs.Kinds.{kind_of, other, own, quiet, slice_kind}
@@ -23,6 +21,8 @@ use Rattle.channels.proofs.Laws.Begins.{Apart, Begins}
 use Rattle.channels.proofs.Laws.Events.{begins, goes_on, steps}
 use Rattle.channels.proofs.Laws.SliceEvents.{slice_succeeds}
 use Rattle.channels.proofs.Laws.Steps.{GoesOn, Steps, Took}
+use Rattle.words.specs.declared.answers.Refusal.{Refusal}
+use Rattle.bus.specs.declared.slice.Given.{Given}
 
 -- ---- the last opening
 
@@ -67,7 +67,7 @@ own_test true mine e = absurd (let z : ◌≡◌ {A = ℕ} 0 1 = cc in omega ari
 own_test false true e = refl
 own_test false false e = absurd (let z : ◌≡◌ {A = ℕ} 0 1 = cc in omega arith)
 
-own_address : (a : ℕ) (call : SliceCall) → slice_kind a call ≡ own → address_of (slice_value call) ≡ a
+own_address : (a : ℕ) (call : Result (Option Given) Refusal) → slice_kind a call ≡ own → address_of (slice_value call) ≡ a
 own_address a call e =
     let number = slice_number call in
     eqb-true _ a (right_of (eqb number 0) _ (own_test (eqb number 7 || eqb number 9) _ e))
@@ -245,7 +245,7 @@ joined_since (e ∷ es) h p s u v b before =
 show_one : (w : World) → in_range w.cells ≡ true → (u v : ℕ) → u < count_in w.cells → v < count_in w.cells → sender_serial w u ≡ receiver_serial w v
     → ShowOne w u v
 show_one w ok u v fits fits_there same =
-    (receiver_serial w v, serial_is w ok u fits 0 (receiver_serial w v) (ap SerialCall.Serial same), serial_is w ok v fits_there 1 (receiver_serial w v) refl)
+    (receiver_serial w v, serial_is w ok u fits 0 (receiver_serial w v) (ap Ok same), serial_is w ok v fits_there 1 (receiver_serial w v) refl)
 
 pub shown_together : (p : Past) → Sound p → SerialTogether p
 shown_together p s u v b = show_one p.world s.ranged u v b.fitted b.fitted_there (s.serials u v b)
@@ -353,7 +353,7 @@ past_counted (e ∷ es) h p s c =
     (λ going. c k (fitted_before p s e h.0 going k there)))
 
 pub shown_count : (p : Past) → Sound p → Counted p → SerialCounts p
-shown_count p s c k there = serial_is p.world s.ranged k there 0 (p.openings k % 65536) (ap SerialCall.Serial (c k there))
+shown_count p s c k there = serial_is p.world s.ranged k there 0 (p.openings k % 65536) (ap Ok (c k there))
 
 -- neither end opens where both are open
 pub outlasts : (p : Past) → Sound p → SerialOutlasts p

@@ -1,13 +1,12 @@
 -- A slice: only the transmitter that it serves and the receiver that it goes to can open, and they open with each other.
 -- Assumes nothing.
-use Rattle.std.specs.Prelude.{Bool, true, false, not, List, ◌⊎◌, ◌≡◌, refl, ℕ, ◌+◌, ◌-◌, ◌<◌, eqb, ltb}
+use Rattle.std.specs.Prelude.{Bool, true, false, not, List, ◌⊎◌, ◌≡◌, refl, ℕ, ◌+◌, ◌-◌, ◌<◌, eqb, ltb, Some, None, Result, Ok, Err, Option}
 use Rattle.std.proofs.Common.{true≢false, inl, inr, ⊎_elim, ap, subst, sym, ◌∙◌, arith, eq-eqb, eqb-true, ltb-true, ne_eqb}
 use Rattle.std.proofs.Math.Path.{subst⁻¹}
 use Rattle.std.proofs.lemmas.Bool.{eqb-false}
 use Rattle.bus.specs.Masterless.{without_master}
 use Rattle.bus.specs.Slice.{slice_passed}
 use Rattle.bus.specs.declared.slice.Given.{Given}
-use Rattle.bus.specs.declared.slice.Slot.{Slot}
 use Rattle.cells.specs.Fitted.{transmitter_of, receiver_of}
 use Rattle.cells.specs.Layout.{count_in, holder_in, receiver_address, transmitter_address}
 use Rattle.cells.specs.Ranges.{in_range}
@@ -24,13 +23,12 @@ use Rattle.laws.specs.Laws.Both.{both}
 use Rattle.master.specs.Laws.Laws.{next_lt}
 use Rattle.pcl.specs.Link.{passed_by, slice_call}
 use Rattle.pcl.specs.Numbers.{address_of, slice_number, slice_value}
-use Rattle.pcl.specs.declared.answers.SliceCall.{SliceCall}
 use Rattle.pcl.specs.Laws.Values.{slice_shows}
 use Rattle.promise.specs.Kinds.{Kind, own, slice_kind}
 use Rattle.promise.proofs.Laws.SliceCalls.{slice_call_lem, slice_kind_lem}
 use Rattle.receiver.specs.declared.side.Receiver.{Receiver}
 use Rattle.sending.specs.Choice.{destination_of}
-use Rattle.silos.specs.Silo.{Sized, count}
+use Rattle.silos.specs.Silo.{count}
 use Rattle.slices.specs.Serials.{alone_keeps, opens, receiver_copies, sender_raised}
 use Rattle.slices.specs.Slice.{exchanged, sent_alone}
 use Rattle.slices.specs.Laws.Keeps.{another}
@@ -45,6 +43,7 @@ use Rattle.channels.proofs.Laws.Exchanges.{Exchanges, alone_shuts, alone_unanswe
 use Rattle.channels.proofs.Laws.Quiet.{none_receives, none_sends, nothing, quiet, quiet_masterless, senders}
 use Rattle.channels.proofs.Laws.Steps.{Counts, Goes, Keeps, Took, quiet_goes}
 use Rattle.channels.proofs.Laws.Still.{Still}
+use Rattle.words.specs.declared.answers.Refusal.{Refusal}
 
 -- the same ends, said otherwise
 between_so : {t u : Transmitter} {r s : Receiver} {from to sender receiver : ℕ} → t ≡ u → r ≡ s → from ≡ sender → to ≡ receiver → Between t r from to → Between u s sender receiver
@@ -408,7 +407,7 @@ module _ (kind : ℕ → Kind) (cells after : List ℕ) (ok : in_range cells ≡
 -- ---- the call
 
 module _ (cells : List ℕ) (ok : in_range cells ≡ true) (apart : Apart cells) (mask parity : ℕ) where
-  abbrev By : SliceCall × List ℕ → Type 0
+  abbrev By : Result (Option Given) Refusal × List ℕ → Type 0
   By outcome = Goes (λ address. slice_kind address outcome.0) mask cells outcome.1
 
   abbrev SucceedsBy : Type 0
@@ -416,10 +415,10 @@ module _ (cells : List ℕ) (ok : in_range cells ≡ true) (apart : Apart cells)
       Succeeds (slice_call cells mask parity).0
       → (u : ℕ) × (v : ℕ) × (transmitter_address cells u ≡ address_of (slice_value (slice_call cells mask parity).0)) × OpenBetween cells u v
 
-  refused : ltb 1 parity ≡ true → (SliceCall.BadMask, cells) ≡ slice_call cells mask parity
+  refused : ltb 1 parity ≡ true → (Err Refusal.BadMask, cells) ≡ slice_call cells mask parity
   refused many = past _ (ap not ok) (here _ many refl)
 
-  masterless : ltb 1 parity ≡ false → eqb (holder_in cells) 0 ≡ true → passed_by (Slot.NoMaster, without_master cells) ≡ slice_call cells mask parity
+  masterless : ltb 1 parity ≡ false → eqb (holder_in cells) 0 ≡ true → passed_by (None, without_master cells) ≡ slice_call cells mask parity
   masterless few none =
       past _ (ap not ok) (past _ few (ap passed_by (sym (no_master cells mask (eqb parity 1) (eqb-true (holder_in cells) 0 none)))))
 
@@ -451,13 +450,13 @@ module _ (cells : List ℕ) (ok : in_range cells ≡ true) (apart : Apart cells)
 
     master_goes : By (slice_call cells mask parity)
     master_goes =
-        subst⁻¹ (λ (outcome : SliceCall × List ℕ). Goes kind mask cells outcome.1) (slice_call_lem cells ok mask parity m master_held few)
+        subst⁻¹ (λ (outcome : Result (Option Given) Refusal × List ℕ). Goes kind mask cells outcome.1) (slice_call_lem cells ok mask parity m master_held few)
         (served_goes kind cells after ok apart m from mask (eqb parity 1) number mine (slice_passes cells ok mask (eqb parity 1) m master_held).leaves)
 
     master_succeeds : SucceedsBy
     master_succeeds y =
-        let called : (slice_call cells mask parity).0 ≡ SliceCall.Passed (Slot.Given given) =
-        ap (λ (outcome : SliceCall × List ℕ). outcome.0) (slice_call_lem cells ok mask parity m master_held few) in
+        let called : (slice_call cells mask parity).0 ≡ Ok (Some given) =
+        ap (λ (outcome : Result (Option Given) Refusal × List ℕ). outcome.0) (slice_call_lem cells ok mask parity m master_held few) in
         let shows = slice_shows cells mask parity given called in
         let z = served_succeeds kind cells after ok apart m from mask (eqb parity 1) number mine (sym shows.a ∙ y.a) (sym shows.b ∙ y.b) in
         (z.0, z.1, z.2 ∙ sym shows.address, z.3)
@@ -473,6 +472,6 @@ module _ (cells : List ℕ) (ok : in_range cells ≡ true) (apart : Apart cells)
 
   pub slice_succeeds : SucceedsBy
   slice_succeeds y =
-      let number : SliceCall × List ℕ → ℕ = λ outcome. slice_number outcome.0 in
+      let number : Result (Option Given) Refusal × List ℕ → ℕ = λ outcome. slice_number outcome.0 in
       by (ltb 1 parity) (λ many. absurd (omega (arith, y.number, ap number (refused many))))
       (λ few. by (eqb (holder_in cells) 0) (λ none. absurd (omega (arith, y.number, ap number (masterless few none)))) (λ some. master_succeeds few some y))

@@ -1,7 +1,7 @@
 -- The values that both ends have: read as they were written; and whatever the cells hold, what is read is within the values they may
 -- take.
 -- Assumes nothing.
-use Rattle.std.specs.Prelude.{◌≡◌, Bool, List, ◌++◌, ℕ, ◌-◌, ◌/◌, ◌^◌, ◌≤◌, ◌<◌, length, replicate}
+use Rattle.std.specs.Prelude.{◌≡◌, Bool, List, ◌++◌, ℕ, ◌-◌, ◌/◌, ◌≤◌, ◌<◌, length, replicate}
 use Rattle.std.proofs.Common.{sym, ap, ◌∙◌, arith, lit≤, take_all}
 use Rattle.ends.specs.Ends.{Within}
 use Rattle.ends.specs.declared.End.{End}

@@ -2,13 +2,13 @@
 -- more words are held than it has cells. What each of them becomes where a word is put, where the oldest is taken, where it is taken and one
 -- comes to the end, and where nothing is done. Once for every size.
 -- Assumes nothing.
-use Rattle.std.specs.Prelude.{true, false, ◌≡◌, refl, List, [], ◌∷◌, ◌++◌, ℕ, ◌+◌, ◌-◌, ◌*◌, ◌/◌, ◌%◌, ◌≤◌, ◌<◌, eqb, ltb, length, get_or, set, take, drop}
+use Rattle.std.specs.Prelude.{true, false, ◌≡◌, refl, List, [], ◌∷◌, ◌++◌, ℕ, ◌+◌, ◌-◌, ◌*◌, ◌/◌, ◌%◌, ◌≤◌, ◌<◌, ltb, length, get_or, set, take, drop}
 use Rattle.std.proofs.Common.{sym, ap, ◌∙◌, mod-eq_of_lt, arith, lt-ltb, le-ltb, ltb-false, ne_eqb, get_or-take}
 use Rattle.laws.specs.Pick.{by}
 use Rattle.silos.specs.Silo.{Sized, words, put, taken, oldest, is_empty, has_room}
 use Rattle.silos.specs.Laws.Laws.{sized_taken, words_put, words_taken}
 use Rattle.silos.specs.declared.Silo.{Silo}
-use Rattle.codec.specs.Rings.{around, round_from, start_in, length_in, silo_of, start_for, start_next, in_order, laid_from, ring_cell}
+use Rattle.codec.specs.Rings.{around, round_from, start_in, length_in, silo_of, start_for, start_next, laid_from, ring_cell}
 use Rattle.codec.proofs.Laws.RingLaws.{around_lt, around_here, round_at, words_in_order, laid_same, laid_put, words_next}
 
 -- the cell and the ring of a silo, in the place of those that stood there

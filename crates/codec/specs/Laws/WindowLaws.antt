@@ -1,11 +1,11 @@
 -- The laws of windows and splices. Those of what stands after a splice go by one: a splice within the first part of a list leaves
 -- the second (`in_first`).
 -- Assumes nothing.
-use Rattle.std.specs.Prelude.{◌≡◌, List, [], ◌∷◌, ◌++◌, ℕ, zero, suc, ◌+◌, ◌-◌, ◌≤◌, ◌<◌, length, get_or, set, take, drop, replicate}
-use Rattle.std.proofs.Common.{sym, ap, ◌∙◌, append_assoc, append-nil, zero-add, suc-add, arith, add-one, length-append, length-take, length-drop, drop_of_length-le, take-append-drop, length-take-le, drop_at, take-take, get_or-take, get_or-drop, get_or-append-add}
+use Rattle.std.specs.Prelude.{◌≡◌, List, [], ◌++◌, ℕ, ◌+◌, ◌-◌, ◌≤◌, ◌<◌, length, get_or, set, take, drop, replicate}
+use Rattle.std.proofs.Common.{sym, ap, ◌∙◌, append_assoc, append-nil, zero-add, arith, add-one, length-append, length-take, length-drop, drop_of_length-le, take-append-drop, length-take-le, drop_at, take-take, get_or-take, get_or-drop, get_or-append-add}
 use Rattle.std.proofs.Math.ListN.{get_or-append}
-use Rattle.std.proofs.lemmas.List.{length-replicate, take-append-le, drop-append-le}
-use Rattle.std.proofs.Math.Seq.{take-nil, take-append_seam, paste-suc}
+use Rattle.std.proofs.lemmas.List.{length-replicate, take-append-le, drop-append-le, drop-take}
+use Rattle.std.proofs.Math.Seq.{take-append_seam, paste-suc}
 use Rattle.codec.specs.Window.{cell, window, splice}
 
 -- ---- a splice and its own window
@@ -51,18 +51,12 @@ module _ (xs : List ℕ) (at : ℕ) (ys : List ℕ) (b : ℕ) (apart : at + leng
 
 -- ---- a splice and what stands before it
 
--- taken and dropped the other way round
-swap : (b n : ℕ) (xs : List ℕ) → take n (drop b xs) ≡ drop b (take (b + n) xs)
-swap zero n xs = rw zero-add
-swap (suc b) n [] = simp take-nil
-swap (suc b) n (x ∷ xs) = rw suc-add (swap b n xs)
-
 pub window_before : (xs : List ℕ) (at : ℕ) (ys : List ℕ) (b n : ℕ) → b + n ≤ at → at ≤ length xs → window (splice xs at ys) b n ≡ window xs b n
 window_before xs at ys b n apart within =
     let h : b + n ≤ length (take at xs) = simp length-take (omega arith) in
-    rw (swap b n (splice xs at ys), swap b n xs, append_assoc, take-append-le (b + n) (take at xs), take-take)
+    rw (← drop-take b n (splice xs at ys), ← drop-take b n xs, append_assoc, take-append-le (b + n) (take at xs), take-take)
 
--- ---- a turn of the loop that copies a window out
+-- ---- a turn of a loop that writes a row, cell by cell
 
 pub copied : (xs : List ℕ) (at : ℕ) (w : List ℕ) (i : ℕ) → at + i < length xs → i < length w
     → set (window xs at i ++ drop i w) i (get_or xs (at + i) 0) ≡ window xs at (i + 1) ++ drop (i + 1) w

@@ -4,7 +4,7 @@ use Rattle.std.specs.Prelude.{true, List, ◌≡◌, ℕ, ◌+◌, ◌-◌, ◌�
 use Rattle.std.proofs.Common.{ap, sym, subst, ◌∙◌, arith, get_or-set_other}
 use Rattle.laws.specs.Pick.{by, either, pick}
 use Rattle.receiver.specs.Moves as R
-use Rattle.receiver.specs.declared.moves.Moved.{Moved}
+use Rattle.receiver.specs.Moves.{Moved}
 use Rattle.receiver.specs.declared.side.Receiver.{Receiver}
 use Rattle.silos.specs.Silo.{oldest}
 use Rattle.transmitter.specs.Moves as T

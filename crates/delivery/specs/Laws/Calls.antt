@@ -1,12 +1,12 @@
 -- What a call does to the ends of a message: a memory move of either, and a slice of T's that names no damage.
 -- Assumes nothing.
-use Rattle.std.specs.Prelude.{false, List, ◌≡◌, ℕ}
+use Rattle.std.specs.Prelude.{false, List, ◌≡◌, ℕ, Err}
 use Rattle.laws.specs.Pick.{pick}
 use Rattle.receiver.specs.Moves as R
 use Rattle.slices.specs.Slice.{exchanged}
 use Rattle.slices.specs.declared.Pair.{Pair}
 use Rattle.transmitter.specs.Moves as T
-use Rattle.words.specs.declared.answers.Move.{Move}
+use Rattle.words.specs.declared.answers.Refusal.{Refusal}
 use Rattle.transmitter.specs.declared.side.Transmitter.{Transmitter}
 use Rattle.delivery.specs.Ends.{Ends, Message}
 
@@ -38,5 +38,5 @@ sliced m x = with x (exchanged x.transmitter x.receiver m.from 0 false)
 
 -- "before each of T's slices both ends have moved until 4": one more move of either answers 4
 pub record MovedUntil4 (m : Message) (x : Ends) : Type 0 where
-  pub transmitter : (T.moved x.transmitter x.sending m.sending_length).answer ≡ Move.Nothing
-  pub receiver : (R.moved x.receiver x.receiving m.receiving_length).0.answer ≡ Move.Nothing
+  pub transmitter : (T.moved x.transmitter x.sending m.sending_length).answer ≡ Err Refusal.Nothing
+  pub receiver : (R.moved x.receiver x.receiving m.receiving_length).0.answer ≡ Err Refusal.Nothing

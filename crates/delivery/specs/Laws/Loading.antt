@@ -1,18 +1,16 @@
 -- A transmitter's move that goes well, as one equation, and what it tells that a move answers 4.
 -- Assumes nothing.
-use Rattle.std.specs.Prelude.{Bool, true, false, not, ◌&&◌, List, ◌≡◌, refl, ℕ, ◌-◌, ◌/◌, ◌^◌, ◌<◌, get_or}
+use Rattle.std.specs.Prelude.{Bool, true, false, not, ◌&&◌, List, ◌≡◌, refl, ℕ, ◌-◌, ◌/◌, ◌^◌, ◌<◌, get_or, Result, Ok, Err}
 use Rattle.std.proofs.Common.{ap, sym, ◌∙◌, arith, lt-ltb}
 use Rattle.laws.specs.Pick.{pick}
 use Rattle.silos.specs.Silo.{has_room}
-use Rattle.transmitter.specs.Moves.{may_move, moved, gone, moved_from}
+use Rattle.transmitter.specs.Moves.{Moved, may_move, moved, gone, moved_from}
 use Rattle.transmitter.specs.Side.{has_error}
-use Rattle.transmitter.specs.declared.moves.Moved.{Moved}
 use Rattle.transmitter.specs.declared.side.Transmitter.{Transmitter}
 use Rattle.words.specs.Address.{place_of}
 use Rattle.words.specs.Answers.{move_number}
 use Rattle.words.specs.Load.{Bounded, word_moved}
-use Rattle.words.specs.declared.address.Place.{Place}
-use Rattle.words.specs.declared.answers.Move.{Move}
+use Rattle.words.specs.declared.answers.Refusal.{Refusal}
 use Rattle.delivery.specs.Laws.Loads.{no_overflow}
 
 pub both : (a b : Bool) → (a && b) ≡ true → (a ≡ true) × (b ≡ true)
@@ -34,15 +32,15 @@ loaded_and_room t =
     (not t.channel.ending)
 
 answered_4 : (may : Bool) (t : Transmitter) (m : Moved) → move_number m.answer ≡ 0
-    → (pick (not may) (record { side = t; answer = Move.Nothing }) m).answer ≡ Move.Nothing → may ≡ false
+    → (pick (not may) (record { side = t; answer = Err Refusal.Nothing }) m).answer ≡ Err Refusal.Nothing → may ≡ false
 answered_4 true t m done e = absurd (omega (arith, sym done ∙ ap move_number e))
 answered_4 false t m done e = refl
 
-done_from : (t : Transmitter) (memory : List ℕ) (p : Place) → move_number (moved_from t memory p).answer ≡ 0
-done_from t memory (Place.Inside at) = refl
-done_from t memory (Place.Outside address) = refl
+done_from : (t : Transmitter) (memory : List ℕ) (p : Result ℕ ℕ) → move_number (moved_from t memory p).answer ≡ 0
+done_from t memory (Ok at) = refl
+done_from t memory (Err address) = refl
 
-pub until_4 : (t : Transmitter) (memory : List ℕ) (length : ℕ) → (moved t memory length).answer ≡ Move.Nothing → may_move t ≡ false
+pub until_4 : (t : Transmitter) (memory : List ℕ) (length : ℕ) → (moved t memory length).answer ≡ Err Refusal.Nothing → may_move t ≡ false
 until_4 t memory length e =
     let p = place_of t.end.load.address.0 length in answered_4 (may_move t) t (moved_from t memory p) (done_from t memory p) e
 

@@ -1,6 +1,6 @@
 -- What an end starts with is within its values, and so is an end in which some of them are changed.
 -- Assumes nothing.
-use Rattle.std.specs.Prelude.{ℕ, ◌+◌, ◌^◌, ◌<◌, ◌≤◌}
+use Rattle.std.specs.Prelude.{ℕ, ◌+◌, ◌^◌, ◌<◌}
 use Rattle.std.proofs.Common.{arith, lit<, lit≤}
 use Rattle.silos.specs.Silo.{Sized}
 use Rattle.silos.specs.Laws.Laws.{sized_none}

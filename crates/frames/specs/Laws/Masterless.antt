@@ -1,6 +1,6 @@
 -- A slice with no master: a unit takes over, or every transmitter misses the master; every receiver is as it was.
 -- Assumes nothing.
-use Rattle.std.specs.Prelude.{Bool, true, ◌≡◌, refl, eqb, ltb}
+use Rattle.std.specs.Prelude.{Bool, true, ◌≡◌, refl, eqb, ltb, None}
 use mathlib.Core.List.{List}
 use Rattle.std.proofs.Math.Path.{sym, subst⁻¹}
 use Rattle.std.proofs.Common.{ap, subst, ◌∙◌, arith, eq-eqb, eqb-true, lt-ltb, le-ltb, ltb-true, ltb-false}
@@ -8,7 +8,7 @@ use Prim.Native.Nat.{ℕ, zero, suc, ◌+◌, ◌<◌, ◌≤◌}
 use Rattle.std.proofs.lemmas.Bool.{eqb-false}
 use Rattle.bus.specs.Masterless.{taken_over_by, missed_up_to, without_master}
 use Rattle.bus.specs.Slice.{slice_passed}
-use Rattle.bus.specs.declared.slice.Slot.{Slot}
+use Rattle.bus.specs.declared.slice.Given.{Given}
 use Rattle.cells.specs.Fitted.{transmitter_of, master_of, put_transmitter}
 use Rattle.cells.specs.Ranges.{in_range}
 use Rattle.cells.specs.Layout.{count_in, holder_in, secondary_in}
@@ -97,5 +97,5 @@ module _ (cells : List ℕ) (ok : in_range cells ≡ true) where
   without_none e = subst (λ (n : ℕ). Leaves Anywhere cells (without_master cells) (masterless_on (sides_of cells) n)) e without_leaves
 
 -- "Answer 8, nothing sent."
-pub no_master : (cells : List ℕ) (mask : ℕ) (parity : Bool) → holder_in cells ≡ 0 → slice_passed cells mask parity ≡ (Slot.NoMaster, without_master cells)
+pub no_master : (cells : List ℕ) (mask : ℕ) (parity : Bool) → holder_in cells ≡ 0 → slice_passed cells mask parity ≡ (None, without_master cells)
 no_master cells mask parity e = sym (here _ (eq-eqb (holder_in cells) 0 e) refl)

@@ -1,6 +1,6 @@
 -- A word read at a fitted unit: it may remove a word of a data silo or an address, and every other side is as it was.
 -- Assumes nothing.
-use Rattle.std.specs.Prelude.{Bool, true, false, not, ◌&&◌, List, ◌≡◌, refl, ℕ, ◌<◌, eqb, ltb}
+use Rattle.std.specs.Prelude.{Bool, true, false, not, ◌&&◌, List, ◌≡◌, refl, ℕ, ◌<◌, eqb, ltb, Result}
 use Rattle.std.proofs.Common.{true≢false, sym, ◌∙◌, eqb-true}
 use Rattle.std.proofs.Math.Path.{subst⁻¹}
 use Rattle.accesses.specs.Reading.{unit_read}
@@ -21,7 +21,7 @@ use Rattle.transmitter.specs.declared.side.Transmitter.{Transmitter}
 use Rattle.transmitter_registers.specs.Laws.Keeps as TK
 use Rattle.transmitter_registers.specs.Laws.Stays as TS
 use Rattle.transmitter_registers.specs.Reading as T
-use Rattle.words.specs.declared.answers.Read.{Read}
+use Rattle.words.specs.declared.answers.Refusal.{Refusal}
 use Rattle.frames.specs.Laws.Leaves.{Leaves, At, stays_at, transmitter_within, receiver_within, master_within, alike}
 use Rattle.frames.specs.Laws.Sides.{Sides, sides_of, replaced_same, with_transmitter, with_receiver, with_master}
 use Rattle.frames.specs.Laws.Stores.{transmitter_stored, receiver_stored, master_stored, transmitter_left, receiver_left, master_left}
@@ -79,7 +79,7 @@ module _ (cells : List ℕ) (ok : in_range cells ≡ true) (unit : ℕ) (fitted 
       let r = receiver_of cells unit in
       let m = master_of cells unit in
       let reading = t.modes.read_silo in
-      let P : Read × List ℕ → Sides → Type 0 = λ p s. Leaves (At unit) cells p.1 s in
+      let P : Result ℕ Refusal × List ℕ → Sides → Type 0 = λ p s. Leaves (At unit) cells p.1 s in
       alike P (eqb offset 10)
       (λ e. either (λ p. P p (with_master (sides_of cells) unit (removed m reading))) (removes m reading)
       (λ some. master_stored l unit fitted refl (removed m reading) (within_removed m (master_within l unit fitted) reading))

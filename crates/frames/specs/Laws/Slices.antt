@@ -1,11 +1,11 @@
 -- A slice with a master: its section gives the next address, and the slice is of the transmitter and the receiver found. Every other
 -- section, transmitter and receiver is as it was, and the same unit is master.
 -- Assumes nothing.
-use Rattle.std.specs.Prelude.{Bool, true, List, ◌≡◌, refl, ℕ, ◌+◌, ◌-◌, ◌<◌}
+use Rattle.std.specs.Prelude.{Bool, true, List, ◌≡◌, refl, ℕ, ◌+◌, ◌-◌, ◌<◌, Option, Some}
 use Rattle.std.proofs.Common.{sym, ap, subst, ◌∙◌, arith, lt-ltb, ne_eqb}
 use Rattle.std.proofs.Math.Path.{subst⁻¹}
 use Rattle.bus.specs.Slice as B
-use Rattle.bus.specs.declared.slice.Slot.{Slot}
+use Rattle.bus.specs.declared.slice.Given.{Given}
 use Rattle.cells.specs.Fitted.{transmitter_of, master_of}
 use Rattle.cells.specs.Ranges.{in_range}
 use Rattle.cells.specs.Layout.{count_in, holder_in}
@@ -28,8 +28,8 @@ abbrev pub next_address : List ℕ → ℕ → ℕ
 next_address cells m = (next_of (master_of cells m)).address
 
 -- a slice answers with that address and those codes, and leaves those sides
-pub record Passes (cells : List ℕ) (p : Slot × List ℕ) (address : ℕ) (q : Codes × Sides) : Type 0 where
-  pub answer : p.0 ≡ Slot.Given (record { address = address; codes = q.0 })
+pub record Passes (cells : List ℕ) (p : Option Given × List ℕ) (address : ℕ) (q : Codes × Sides) : Type 0 where
+  pub answer : p.0 ≡ Some (record { address = address; codes = q.0 })
   pub leaves : Leaves Anywhere cells p.1 q.1
 
 abbrev pub SlicePasses : List ℕ → ℕ → Bool → ℕ → Codes × Sides → Type 0
@@ -44,7 +44,7 @@ module _ (cells : List ℕ) (ok : in_range cells ≡ true) (mask : ℕ) (parity 
       let h = master_within (stays ok) m fitted in
       let l = next_stored (stays ok) m fitted tt (next_of section).side (within_next section h) in
       let s = served l (next_address cells m) (next_lt section h) mask parity in
-      record { answer = ap Slot.Given s.answer; leaves = s.leaves }
+      record { answer = ap Some s.answer; leaves = s.leaves }
 
 -- the master's
 module _ (cells : List ℕ) (ok : in_range cells ≡ true) (mask : ℕ) (parity : Bool) (m : ℕ) (held : holder_in cells ≡ m + 1) where
@@ -59,7 +59,7 @@ module _ (cells : List ℕ) (ok : in_range cells ≡ true) (mask : ℕ) (parity 
 
   pub slice_passes : SlicePasses cells mask parity m (served_on cells (next_on cells m) (next_address cells m) mask parity)
   slice_passes =
-      subst⁻¹ (λ (p : Slot × List ℕ). Passes cells p (next_address cells m) (served_on cells (next_on cells m) (next_address cells m) mask parity)) passed_is
+      subst⁻¹ (λ (p : Option Given × List ℕ). Passes cells p (next_address cells m) (served_on cells (next_on cells m) (next_address cells m) mask parity)) passed_is
       (section_passes cells ok mask parity m master_fitted)
 
   -- no transmitter has the address: "idle, A and B 00, nothing else"

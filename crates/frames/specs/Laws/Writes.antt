@@ -1,6 +1,6 @@
 -- A word or a byte written at a fitted unit: what the sides become.
 -- Assumes nothing.
-use Rattle.std.specs.Prelude.{true, ◌&&◌, List, ◌≡◌, refl, ℕ, ◌+◌, ◌^◌, ◌<◌, ◌≤◌, eqb, ltb}
+use Rattle.std.specs.Prelude.{true, ◌&&◌, List, ◌≡◌, refl, ℕ, ◌+◌, ◌^◌, ◌<◌, ◌≤◌, eqb, ltb, Result}
 use Rattle.std.proofs.Common.{sym, ap, ◌∙◌, arith, eqb-true}
 use Rattle.accesses.specs.Masters.{mastership_of, holder_after}
 use Rattle.accesses.specs.Writing.{unit_written, unit_byte_written, after_master}
@@ -20,6 +20,7 @@ use Rattle.transmitter_registers.specs.Laws.Keeps as TK
 use Rattle.transmitter_registers.specs.Laws.Stays as TS
 use Rattle.transmitter_registers.specs.Writing as T
 use Rattle.words.specs.declared.answers.Write.{Write}
+use Rattle.words.specs.declared.answers.Refusal.{Refusal}
 use Rattle.frames.specs.Laws.Leaves.{Leaves, At, stays_at, agrees, transmitter_within, receiver_within, master_within, alike}
 use Rattle.frames.specs.Laws.Resets.{initialised_on, init_leaves}
 use Rattle.frames.specs.Laws.Sides.{Sides, sides_of, replaced_same, with_holder, with_transmitter, with_receiver, with_master}
@@ -88,7 +89,7 @@ module _ (cells : List ℕ) (ok : in_range cells ≡ true) (unit : ℕ) (fitted 
         let m = master_of cells unit in
         let own = mastership_of (holder_in cells) unit in
         let reading = t.modes.read_silo in
-        let P : Write × List ℕ → Sides → Type 0 = λ p s. Leaves (At unit) cells p.1 s in
+        let P : Result Write Refusal × List ℕ → Sides → Type 0 = λ p s. Leaves (At unit) cells p.1 s in
         alike P (eqb offset 0 && T.initialises word) (λ e. init_leaves cells ok unit fitted)
         (λ e. alike P (eqb offset 10)
         (λ e. master_leaves (M.word_written m own reading word) (within_word m (master_within l unit fitted) own reading word))
@@ -109,7 +110,7 @@ module _ (cells : List ℕ) (ok : in_range cells ≡ true) (unit : ℕ) (fitted 
         let own = mastership_of (holder_in cells) unit in
         let reading = t.modes.read_silo in
         let low = M.low_byte_written m own reading byte in
-        let P : Write × List ℕ → Sides → Type 0 = λ p s. Leaves (At unit) cells p.1 s in
+        let P : Result Write Refusal × List ℕ → Sides → Type 0 = λ p s. Leaves (At unit) cells p.1 s in
         alike P (eqb offset 0 && T.initialises byte) (λ e. init_leaves cells ok unit fitted)
         (λ e. alike P (eqb offset 10)
         (λ e. either (λ p. P p (master_on (sides_of cells) unit low)) (M.takes_address m reading)

@@ -1,7 +1,7 @@
 -- A fit does not look at the lent state but for its room, leaves every side in its initial state, and fills the index by the addresses: from
 -- two states with the same room it leaves states that are the same.
 -- Assumes nothing.
-use Rattle.std.specs.Prelude.{true, not, List, ◌≡◌, refl, ℕ, zero, suc, ◌+◌, ◌*◌, ◌%◌, ◌≤◌, ◌<◌, ltb, length}
+use Rattle.std.specs.Prelude.{true, not, List, ◌≡◌, refl, ℕ, zero, suc, ◌+◌, ◌*◌, ◌%◌, ◌≤◌, ◌<◌, ltb, length, Ok, Err}
 use Rattle.std.proofs.Common.{sym, ap, subst, ◌∙◌, arith, le-ltb, ltb-false}
 use Rattle.std.proofs.Math.Path.{subst⁻¹}
 use Rattle.std.proofs.lemmas.Bool.{not-false}
@@ -19,9 +19,9 @@ use Rattle.frames.specs.Laws.Leaves.{Agree, alike}
 use Rattle.frames.specs.Laws.Sides.{sides_of}
 use Rattle.laws.specs.Pick.{pick, past}
 use Rattle.pcl.specs.Link.{room_for, fit_call}
-use Rattle.pcl.specs.declared.answers.FitCall.{FitCall}
 use Rattle.layouts.specs.Same.{Same, SameNumbers}
 use Rattle.layouts.specs.Laws.Units.{AlikeCalls, refused}
+use Rattle.words.specs.declared.answers.Refusal.{Refusal}
 
 -- a number beyond 5 bits is looked up by its remainder
 five_bits : (cells : List ℕ) (k a : ℕ) → unit_with cells k a ≡ unit_with cells k (a % 32)
@@ -88,10 +88,10 @@ module _ {cells other : List ℕ} (h : Same cells other) (setup : List ℕ) wher
       let asked = room_for (count_of setup) in
       subst⁻¹
       (λ (n : ℕ). AlikeCalls (fit_call cells setup)
-      (pick (ltb n asked) (FitCall.NoRoom, other) (pick (not (set_up_good setup)) (FitCall.BadSetUp, other) (FitCall.Done, fit other setup))))
+      (pick (ltb n asked) (Err Refusal.NoRoom, other) (pick (not (set_up_good setup)) (Err Refusal.BadSetUp, other) (Ok tt, fit other setup))))
       h.room
-      (alike AlikeCalls (ltb (length cells) asked) (λ e. refused h FitCall.NoRoom)
-      (λ enough. alike AlikeCalls (not (set_up_good setup)) (λ e. refused h FitCall.BadSetUp)
+      (alike AlikeCalls (ltb (length cells) asked) (λ e. refused h (Err Refusal.NoRoom))
+      (λ enough. alike AlikeCalls (not (set_up_good setup)) (λ e. refused h (Err Refusal.BadSetUp))
       (λ kept.
       let good : set_up_good setup ≡ true = not-false (set_up_good setup) kept in
       let few : unit_place (count_of setup) ≡ asked = past _ (le-ltb _ _ (good_says setup good).most) refl in

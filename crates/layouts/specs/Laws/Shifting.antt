@@ -1,7 +1,7 @@
 -- The shifting layout leaves every side as it is read, and lays every silo from its first cell on.
 -- Assumes nothing.
 use Rattle.std.specs.Prelude.{true, List, [], ◌∷◌, ◌++◌, ◌≡◌, refl, eqb, take, drop, replicate}
-use Rattle.std.proofs.Common.{append_assoc, append-nil, sym, ap, subst, ◌∙◌, zero-add, suc-add, le_of_suc-le-suc, not-suc-le-zero, eq-or-lt_of_le, eqb-true, lt-ltb, lit≤, length-append, take-take, take_at, take_all, drop_at, drop-drop}
+use Rattle.std.proofs.Common.{append_assoc, append-nil, sym, ap, ◌∙◌, zero-add, suc-add, le_of_suc-le-suc, not-suc-le-zero, eq-or-lt_of_le, eqb-true, lt-ltb, lit≤, length-append, take-take, take_at, take_all, drop_at, drop-drop}
 use Rattle.std.proofs.Math.Logic.{⊎_elim}
 use Rattle.std.proofs.Math.Path.{subst⁻¹}
 use Prim.Native.Nat.{ℕ, zero, suc, ◌+◌, ◌-◌, ◌≤◌, ◌<◌}

@@ -1,13 +1,13 @@
 -- A slice on two states that are the same but for the layout: the same transmitter and receiver are found, the same codes pass between
 -- them, and the states are the same again.
 -- Assumes nothing.
-use Rattle.std.specs.Prelude.{Bool, not, List, ◌≡◌, refl, ℕ, ◌-◌, ◌<◌, eqb, ltb}
+use Rattle.std.specs.Prelude.{Bool, not, List, ◌≡◌, refl, ℕ, ◌-◌, ◌<◌, eqb, ltb, Some, None, Result, Ok, Err, Option}
 use Rattle.std.proofs.Common.{sym, ap, subst, ◌∙◌, arith, ltb-true}
 use Rattle.std.proofs.Math.Path.{subst⁻¹}
 use Rattle.std.proofs.lemmas.Bool.{eqb-false}
 use Rattle.bus.specs.Masterless.{without_master}
 use Rattle.bus.specs.Slice.{master_slice, slot_of, slice_passed}
-use Rattle.bus.specs.declared.slice.Slot.{Slot}
+use Rattle.bus.specs.declared.slice.Given.{Given}
 use Rattle.cells.specs.Layout.{count_in, holder_in, secondary_in}
 use Rattle.cells.specs.Search.{first_secondary}
 use Rattle.cells.proofs.Laws.IndexLaws.{index_fitted}
@@ -22,7 +22,6 @@ use Rattle.laws.specs.Pick.{pick}
 use Rattle.master.specs.Section.{next_of}
 use Rattle.master.specs.declared.side.Master.{Master}
 use Rattle.pcl.specs.Link.{passed_by, slice_call}
-use Rattle.pcl.specs.declared.answers.SliceCall.{SliceCall}
 use Rattle.receiver.specs.declared.side.Receiver.{Receiver}
 use Rattle.sending.specs.Choice.{destination_of}
 use Rattle.slices.specs.Slice.{exchanged, sent_alone}
@@ -33,6 +32,7 @@ use Rattle.layouts.specs.Same.{Same}
 use Rattle.layouts.specs.Laws.Agreeing.{transmitter_agrees, receiver_agrees, master_agrees, masterless_agrees}
 use Rattle.layouts.specs.Laws.Sames.{left_same}
 use Rattle.layouts.specs.Laws.Units.{AlikeCalls, refused, there_too}
+use Rattle.words.specs.declared.answers.Refusal.{Refusal}
 
 -- the same codes, and sides that agree
 record AgreeSlices (n : ℕ) (p q : Codes × Sides) : Type 0 where
@@ -106,8 +106,8 @@ module _ {cells other : List ℕ} (h : Same cells other) (mask : ℕ) where
         record {
           answer =
               one.answer
-              ∙ ap (λ (n : ℕ). Slot.Given (record { address = n; codes = (served_on cells (next_on cells m) (next_address cells m) mask parity).0 })) address
-              ∙ ap (λ (c : Codes). Slot.Given (record { address = next_address other m; codes = c })) agree.codes
+              ∙ ap (λ (n : ℕ). Some (record { address = n; codes = (served_on cells (next_on cells m) (next_address cells m) mask parity).0 })) address
+              ∙ ap (λ (c : Codes). Some (record { address = next_address other m; codes = c })) agree.codes
               ∙ sym two.answer;
           cells = left_same h one.leaves two.leaves agree.sides;
         }
@@ -126,7 +126,7 @@ module _ {cells other : List ℕ} (h : Same cells other) (mask : ℕ) where
     passed_alike : AlikeCalls (slice_passed cells mask parity) (slice_passed other mask parity)
     passed_alike =
         subst
-        (λ (n : ℕ). AlikeCalls (slice_passed cells mask parity) (pick (eqb n 0) (Slot.NoMaster, without_master other) (slot_of (master_slice other (n - 1) mask parity))))
+        (λ (n : ℕ). AlikeCalls (slice_passed cells mask parity) (pick (eqb n 0) (None, without_master other) (slot_of (master_slice other (n - 1) mask parity))))
         h.sides.holder
         (alike AlikeCalls (eqb (holder_in cells) 0) (λ none. record { answer = refl; cells = without_alike })
         (λ held. section_alike (holder_in cells - 1) (omega (arith, holder_most cells h.ranged, eqb-false (holder_in cells) 0 held))))
@@ -134,9 +134,9 @@ module _ {cells other : List ℕ} (h : Same cells other) (mask : ℕ) where
   pub slice_alike : (parity : ℕ) → AlikeCalls (slice_call cells mask parity) (slice_call other mask parity)
   slice_alike parity =
       let passed = passed_alike (eqb parity 1) in
-      let call : List ℕ → SliceCall × List ℕ =
-      λ l. pick (ltb 1 parity) (SliceCall.BadMask, l) (passed_by (slice_passed l mask (eqb parity 1))) in
-      subst⁻¹ (λ (b : Bool). AlikeCalls (pick (not b) (SliceCall.BadState, cells) (call cells)) (slice_call other mask parity)) h.ranged
-      (subst⁻¹ (λ (b : Bool). AlikeCalls (call cells) (pick (not b) (SliceCall.BadState, other) (call other))) h.other_ranged
-      (alike AlikeCalls (ltb 1 parity) (λ e. refused h SliceCall.BadMask)
-      (λ e. record { answer = ap SliceCall.Passed passed.answer; cells = passed.cells })))
+      let call : List ℕ → Result (Option Given) Refusal × List ℕ =
+      λ l. pick (ltb 1 parity) (Err Refusal.BadMask, l) (passed_by (slice_passed l mask (eqb parity 1))) in
+      subst⁻¹ (λ (b : Bool). AlikeCalls (pick (not b) (Err Refusal.BadState, cells) (call cells)) (slice_call other mask parity)) h.ranged
+      (subst⁻¹ (λ (b : Bool). AlikeCalls (call cells) (pick (not b) (Err Refusal.BadState, other) (call other))) h.other_ranged
+      (alike AlikeCalls (ltb 1 parity) (λ e. refused h (Err Refusal.BadMask))
+      (λ e. record { answer = ap Ok passed.answer; cells = passed.cells })))

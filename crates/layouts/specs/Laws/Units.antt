@@ -1,7 +1,7 @@
 -- The calls at a unit on two states that are the same but for the layout: the same answer, and states that are the same again.
 -- Assumes nothing.
-use Rattle.std.specs.Prelude.{Bool, not, ◌&&◌, List, ◌≡◌, refl, ℕ, ◌^◌, ◌<◌, eqb, ltb, leb}
-use Rattle.std.proofs.Common.{sym, ap, ◌∙◌, leb-false}
+use Rattle.std.specs.Prelude.{Bool, not, ◌&&◌, List, ◌≡◌, refl, ℕ, ◌^◌, ◌<◌, eqb, ltb, leb, Result, Ok, Err}
+use Rattle.std.proofs.Common.{sym, ◌∙◌, leb-false}
 use Rattle.std.proofs.Math.Path.{subst⁻¹}
 use Rattle.accesses.specs.Masters.{mastership_of}
 use Rattle.accesses.specs.Reading.{unit_read}
@@ -17,14 +17,11 @@ use Rattle.laws.specs.Pick.{pick, either}
 use Rattle.master.specs.Reading as MR
 use Rattle.master.specs.Writing as MW
 use Rattle.pcl.specs.Calls.{admitted, read_call, write_call, byte_call, reset_call, period_call}
-use Rattle.pcl.specs.declared.answers.ReadCall.{ReadCall}
-use Rattle.pcl.specs.declared.answers.UnitCall.{UnitCall}
-use Rattle.pcl.specs.declared.answers.WriteCall.{WriteCall}
 use Rattle.receiver_registers.specs.Reading as RR
 use Rattle.receiver_registers.specs.Writing as RW
 use Rattle.transmitter_registers.specs.Reading as TR
 use Rattle.transmitter_registers.specs.Writing as TW
-use Rattle.words.specs.declared.answers.Read.{Read}
+use Rattle.words.specs.declared.answers.Refusal.{Refusal}
 use Rattle.words.specs.declared.answers.Write.{Write}
 use Rattle.layouts.specs.Same.{Same}
 use Rattle.layouts.specs.Laws.Agreeing.{read_agrees, written_agrees, byte_agrees, reset_agrees, period_agrees}
@@ -32,22 +29,22 @@ use Rattle.layouts.specs.Laws.Sames.{left_same}
 
 -- ---- the answers on the sides, as `accesses` has them on the cells
 
-abbrev read_answer : Sides → ℕ → ℕ → Read
+abbrev read_answer : Sides → ℕ → ℕ → Result ℕ Refusal
 read_answer s unit offset =
     pick (eqb offset 10)
-    (Read.Word
+    (Ok
     (MR.read_of (s.master unit) (mastership_of s.holder unit) (s.transmitter unit).end.opened (s.transmitter unit).modes.read_silo).word)
     (pick (ltb offset 16) (TR.read_of (s.transmitter unit) offset).answer (RR.read_of (s.receiver unit) offset).answer)
 
-abbrev word_answer : Sides → ℕ → ℕ → ℕ → Write
+abbrev word_answer : Sides → ℕ → ℕ → ℕ → Result Write Refusal
 word_answer s unit offset word =
-    pick (eqb offset 0 && TW.initialises word) Write.Done
+    pick (eqb offset 0 && TW.initialises word) (Ok Write.Done)
     (pick (eqb offset 10) (MW.word_written (s.master unit) (mastership_of s.holder unit) (s.transmitter unit).modes.read_silo word).answer
     (pick (ltb offset 16) (TW.written (s.transmitter unit) offset word).answer (RW.written (s.receiver unit) offset word).answer))
 
-abbrev byte_answer : Sides → ℕ → ℕ → ℕ → Write
+abbrev byte_answer : Sides → ℕ → ℕ → ℕ → Result Write Refusal
 byte_answer s unit offset byte =
-    pick (eqb offset 0 && TW.initialises byte) Write.Done
+    pick (eqb offset 0 && TW.initialises byte) (Ok Write.Done)
     (pick (eqb offset 10) (MW.low_byte_written (s.master unit) (mastership_of s.holder unit) (s.transmitter unit).modes.read_silo byte).answer
     (pick (eqb offset 11) (MW.high_byte_written (s.master unit) (mastership_of s.holder unit) byte).answer
     (pick (ltb offset 16) (TW.byte_written (s.transmitter unit) offset byte).answer (RW.byte_written (s.receiver unit) offset byte).answer)))
@@ -69,21 +66,21 @@ one_answer {A} t x put left = either (λ (p : A × List ℕ). p.0 ≡ x) t (λ e
 module _ (cells : List ℕ) (unit : ℕ) where
   read_answer_lem : (offset : ℕ) → (unit_read cells unit offset).0 ≡ read_answer (sides_of cells) unit offset
   read_answer_lem offset =
-      let P : Read × List ℕ → Read → Type 0 = λ p a. p.0 ≡ a in
+      let P : Result ℕ Refusal × List ℕ → Result ℕ Refusal → Type 0 = λ p a. p.0 ≡ a in
       alike P (eqb offset 10) (λ e. one_answer (MR.removes (master_of cells unit) (transmitter_of cells unit).modes.read_silo) _ _ _)
       (λ e. alike P (ltb offset 16) (λ e. one_answer (TR.removes (transmitter_of cells unit) offset) _ _ _)
       (λ e. one_answer (RR.removes (receiver_of cells unit) offset) _ _ _))
 
   word_answer_lem : (offset word : ℕ) → (unit_written cells unit offset word).0 ≡ word_answer (sides_of cells) unit offset word
   word_answer_lem offset word =
-      let P : Write × List ℕ → Write → Type 0 = λ p a. p.0 ≡ a in
+      let P : Result Write Refusal × List ℕ → Result Write Refusal → Type 0 = λ p a. p.0 ≡ a in
       alike P (eqb offset 0 && TW.initialises word) (λ e. refl)
       (λ e. alike P (eqb offset 10) (λ e. refl)
       (λ e. alike P (ltb offset 16) (λ e. one_answer (TW.changes offset) _ _ _) (λ e. one_answer (RW.changes offset) _ _ _)))
 
   byte_answer_lem : (offset byte : ℕ) → (unit_byte_written cells unit offset byte).0 ≡ byte_answer (sides_of cells) unit offset byte
   byte_answer_lem offset byte =
-      let P : Write × List ℕ → Write → Type 0 = λ p a. p.0 ≡ a in
+      let P : Result Write Refusal × List ℕ → Result Write Refusal → Type 0 = λ p a. p.0 ≡ a in
       let m = master_of cells unit in
       let reading = (transmitter_of cells unit).modes.read_silo in
       alike P (eqb offset 0 && TW.initialises byte) (λ e. refl)
@@ -120,11 +117,10 @@ module _ {cells other : List ℕ} (h : Same cells other) where
   module _ (unit : ℕ) where
     pub read_alike : (offset : ℕ) → AlikeCalls (read_call cells unit offset) (read_call other unit offset)
     read_alike offset =
-        admitted_alike AlikeCalls unit _ _ _ _ _ _ (refused ReadCall.NoUnit)
+        admitted_alike AlikeCalls unit _ _ _ _ _ _ (refused (Err Refusal.NoUnit))
         (λ there.
         record {
           answer =
-              ap ReadCall.Register
               (read_answer_lem cells unit offset ∙ read_answers (count_in cells) h.sides unit there offset ∙ sym (read_answer_lem other unit offset));
           cells =
               left_same h (read_leaves cells h.ranged unit there offset) (read_leaves other h.other_ranged unit (there_too unit there) offset)
@@ -133,11 +129,10 @@ module _ {cells other : List ℕ} (h : Same cells other) where
 
     pub write_alike : (offset word : ℕ) → word < 2 ^ 16 → AlikeCalls (write_call cells unit offset word) (write_call other unit offset word)
     write_alike offset word fits =
-        admitted_alike AlikeCalls unit _ _ _ _ _ _ (refused WriteCall.NoUnit)
+        admitted_alike AlikeCalls unit _ _ _ _ _ _ (refused (Err Refusal.NoUnit))
         (λ there.
         record {
           answer =
-              ap WriteCall.Register
               (word_answer_lem cells unit offset word ∙ word_answers (count_in cells) h.sides unit there offset word ∙ sym (word_answer_lem other unit offset word));
           cells =
               left_same h (write_leaves cells h.ranged unit there offset word fits) (write_leaves other h.other_ranged unit (there_too unit there) offset word fits)
@@ -146,11 +141,10 @@ module _ {cells other : List ℕ} (h : Same cells other) where
 
     pub byte_alike : (offset byte : ℕ) → byte < 2 ^ 8 → AlikeCalls (byte_call cells unit offset byte) (byte_call other unit offset byte)
     byte_alike offset byte fits =
-        admitted_alike AlikeCalls unit _ _ _ _ _ _ (refused WriteCall.NoUnit)
+        admitted_alike AlikeCalls unit _ _ _ _ _ _ (refused (Err Refusal.NoUnit))
         (λ there.
         record {
           answer =
-              ap WriteCall.Register
               (byte_answer_lem cells unit offset byte ∙ byte_answers (count_in cells) h.sides unit there offset byte ∙ sym (byte_answer_lem other unit offset byte));
           cells =
               left_same h (byte_leaves cells h.ranged unit there offset byte fits) (byte_leaves other h.other_ranged unit (there_too unit there) offset byte fits)
@@ -159,7 +153,7 @@ module _ {cells other : List ℕ} (h : Same cells other) where
 
     pub reset_alike : AlikeCalls (reset_call cells unit) (reset_call other unit)
     reset_alike =
-        admitted_alike AlikeCalls unit _ _ _ _ _ _ (refused UnitCall.NoUnit)
+        admitted_alike AlikeCalls unit _ _ _ _ _ _ (refused (Err Refusal.NoUnit))
         (λ there.
         record {
           answer = refl;
@@ -170,7 +164,7 @@ module _ {cells other : List ℕ} (h : Same cells other) where
 
     pub period_alike : AlikeCalls (period_call cells unit) (period_call other unit)
     period_alike =
-        admitted_alike AlikeCalls unit _ _ _ _ _ _ (refused UnitCall.NoUnit)
+        admitted_alike AlikeCalls unit _ _ _ _ _ _ (refused (Err Refusal.NoUnit))
         (λ there.
         record {
           answer = refl;

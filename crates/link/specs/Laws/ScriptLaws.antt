@@ -1,6 +1,6 @@
 -- What is printed for an input, record by record, and from the bytes of it that are at hand.
 -- Assumes nothing.
-use Rattle.std.specs.Prelude.{Bool, true, false, List, [], ◌++◌, ◌≡◌, refl, ℕ, zero, suc, ◌+◌, ◌-◌, ◌≤◌, ◌<◌, length, drop}
+use Rattle.std.specs.Prelude.{Bool, true, false, List, [], ◌++◌, ◌≡◌, refl, ℕ, zero, suc, ◌≤◌, ◌<◌, length, drop}
 use Rattle.std.proofs.Common.{append-nil, sym, ap, subst, ◌∙◌, arith, eq-eqb, length-drop}
 use Rattle.std.proofs.lemmas.List.{drop-append-le}
 use Rattle.laws.specs.Pick.{pick}

@@ -1,6 +1,6 @@
 -- The address that a move on the cells hands up has 18 bits, is even, and is never 0: address 0 lies inside every memory.
 -- Assumes nothing.
-use Rattle.std.specs.Prelude.{Bool, List, ◌≡◌, ℕ, ◌%◌, ◌^◌, ◌<◌}
+use Rattle.std.specs.Prelude.{Bool, List, ◌≡◌, ℕ, ◌%◌, ◌^◌, ◌<◌, Result, Ok, Err, Option, Some, None}
 use Rattle.std.proofs.Common.{arith}
 use Rattle.cells.specs.Fitted.{Fitted, transmitter_of, receiver_of}
 use Rattle.cells.specs.Layout.{memory_length}
@@ -10,19 +10,19 @@ use Rattle.receiver.proofs.Laws.Missing as R
 use Rattle.transmitter.specs.Moves as TM
 use Rattle.transmitter.proofs.Laws.Missing as T
 use Rattle.words.specs.Missing.{HandsUp}
-use Rattle.words.specs.declared.answers.Move.{Move}
+use Rattle.words.specs.declared.answers.Refusal.{Refusal}
 use Rattle.moves.specs.Moving.{transmitter_moved, receiver_moved}
 use Rattle.moves.specs.Laws.Nothing.{transmitter_answers, receiver_answers}
 
-abbrev pub Short : Move → Type 0
-Short Move.Done = Unit {0}
-Short (Move.Missing address) = (0 < address) × (address < 2 ^ 18) × (address % 2 ≡ 0)
-Short Move.Nothing = Unit {0}
+abbrev pub Short : Result (Option ℕ) Refusal → Type 0
+Short (Ok None) = Unit {0}
+Short (Ok (Some address)) = (0 < address) × (address < 2 ^ 18) × (address % 2 ≡ 0)
+Short (Err refusal) = Unit {0}
 
-short : (before after : Bool) (tried memory : ℕ) (m : Move) → HandsUp before after tried memory m → 0 < memory → tried < 2 ^ 18 → tried % 2 ≡ 0 → Short m
-short before after tried memory Move.Done h some few even = tt
-short before after tried memory (Move.Missing address) (clear, set, same, outside) some few even = (omega arith, omega arith, omega arith)
-short before after tried memory Move.Nothing h some few even = tt
+short : (before after : Bool) (tried memory : ℕ) (m : Result (Option ℕ) Refusal) → HandsUp before after tried memory m → 0 < memory → tried < 2 ^ 18 → tried % 2 ≡ 0 → Short m
+short before after tried memory (Ok None) h some few even = tt
+short before after tried memory (Ok (Some address)) (clear, set, same, outside) some few even = (omega arith, omega arith, omega arith)
+short before after tried memory (Err refusal) h some few even = tt
 
 module _ (cells memory : List ℕ) (unit : ℕ) (fitted : Fitted cells unit) where
   pub transmitter_short : Short (transmitter_moved cells memory unit).0

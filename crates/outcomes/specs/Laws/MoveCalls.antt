@@ -1,6 +1,6 @@
 -- A move call at a fitted unit whose memory is lent whole: it is the side's own move. And what moves leave of the memories' lengths.
 -- Assumes nothing.
-use Rattle.std.specs.Prelude.{true, false, not, List, ◌≡◌, refl, ℕ, ◌≤◌, ◌<◌, eqb, leb, ltb, length}
+use Rattle.std.specs.Prelude.{true, false, not, List, ◌≡◌, refl, ℕ, ◌≤◌, ◌<◌, eqb, leb, ltb, length, Result, Ok, Err, Option}
 use Rattle.std.proofs.Common.{ap, sym, ◌∙◌, arith, length-set, leb-true, ltb-true}
 use Rattle.cells.specs.Fitted.{receiver_of}
 use Rattle.cells.specs.Layout.{count_in, memory_length}
@@ -9,13 +9,11 @@ use Rattle.laws.specs.Pick.{by, either, past}
 use Rattle.moves.specs.Moving.{receiver_moved, transmitter_moved}
 use Rattle.moves.specs.Laws.Nothing.{receiver_memory}
 use Rattle.pcl.specs.Sides.{move_call, received_by, sent_by}
-use Rattle.pcl.specs.declared.answers.MoveCall.{MoveCall}
 use Rattle.receiver.specs.Moves as R
-use Rattle.receiver.specs.declared.moves.Moved as RD
 use Rattle.receiver.specs.declared.side.Receiver.{Receiver}
 use Rattle.silos.specs.Silo.{oldest}
 use Rattle.words.specs.Address.{place_of}
-use Rattle.words.specs.declared.address.Place.{Place}
+use Rattle.words.specs.declared.answers.Refusal.{Refusal}
 
 -- ---- what it is
 
@@ -34,19 +32,19 @@ module _ (cells : List ℕ) (ok : in_range cells ≡ true) (memory : List ℕ) (
 
 -- ---- the memory's length
 
-placed : (r : Receiver) (memory : List ℕ) (place : Place) → length (R.moved_to r memory place).1 ≡ length memory
-placed r memory (Place.Inside at) = length-set memory at (oldest r.end.silo)
-placed r memory (Place.Outside address) = refl
+placed : (r : Receiver) (memory : List ℕ) (place : Result ℕ ℕ) → length (R.moved_to r memory place).1 ≡ length memory
+placed r memory (Ok at) = length-set memory at (oldest r.end.silo)
+placed r memory (Err address) = refl
 
 pub length_moved : (r : Receiver) (memory : List ℕ) (n : ℕ) → length (R.moved r memory n).1 ≡ length memory
 length_moved r memory n =
-    let P : RD.Moved × List ℕ → Type 0 = λ v. length v.1 ≡ length memory in
+    let P : R.Moved × List ℕ → Type 0 = λ v. length v.1 ≡ length memory in
     either P (not (R.may_move r)) (λ e. refl)
     (λ e. either P (not r.end.load.loaded) (λ e. refl) (λ e. placed r memory (place_of r.end.load.address.0 n)))
 
 pub length_called : (cells memory : List ℕ) (unit side : ℕ) → length (move_call cells memory unit side).2 ≡ length memory
 length_called cells memory unit side =
-    let P : MoveCall × List ℕ × List ℕ → Type 0 = λ v. length v.2 ≡ length memory in
+    let P : Result (Option ℕ) Refusal × List ℕ × List ℕ → Type 0 = λ v. length v.2 ≡ length memory in
     either P (not (in_range cells)) (λ e. refl)
     (λ e. either P (leb (count_in cells) unit) (λ e. refl)
     (λ e. either P (ltb (length memory) (memory_length cells unit)) (λ e. refl)

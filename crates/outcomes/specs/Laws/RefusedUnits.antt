@@ -1,11 +1,11 @@
 -- An access at a unit that is refused leaves every cell, whatever the cells hold: nothing is put back.
 -- Assumes nothing.
-use Rattle.std.specs.Prelude.{Bool, true, false, ◌&&◌, List, ◌≡◌, refl, ℕ, ltb, eqb}
+use Rattle.std.specs.Prelude.{Bool, true, false, ◌&&◌, List, ◌≡◌, refl, ℕ, ltb, eqb, Result, Option, Some, None}
 use Rattle.std.proofs.lemmas.Bool.{false≢true}
 use Rattle.std.proofs.Common.{ap, sym, ◌∙◌}
 use Rattle.accesses.specs.Reading.{unit_read}
 use Rattle.accesses.specs.Writing.{unit_written, unit_byte_written}
-use Rattle.bus.specs.declared.slice.Slot.{Slot}
+use Rattle.bus.specs.declared.slice.Given.{Given}
 use Rattle.cells.specs.Fitted.{transmitter_of, receiver_of, master_of}
 use Rattle.laws.specs.Pick.{either}
 use Rattle.master.specs.Reading as M
@@ -20,7 +20,7 @@ use Rattle.receiver_registers.specs.Writing as RW
 use Rattle.transmitter_registers.specs.Reading as T
 use Rattle.transmitter_registers.specs.Writing as TW
 use Rattle.words.specs.Answers.{read_number, write_number}
-use Rattle.words.specs.declared.answers.Move.{Move}
+use Rattle.words.specs.declared.answers.Refusal.{Refusal}
 use Rattle.outcomes.specs.Unchanged.{leaves_all, Unchanged, BothUnchanged}
 use Rattle.outcomes.specs.Laws.RefusedSides.{nothing, transmitter_read_done, transmitter_write_done, transmitter_byte_done, receiver_read_done, receiver_write_done, receiver_byte_done}
 
@@ -31,9 +31,9 @@ never false true = refl
 never false false = refl
 
 -- a slice that is not refused answers 0 or 8
-pub passes : (slot : Slot) → leaves_all (slot_number slot) ≡ false
-passes Slot.NoMaster = refl
-passes (Slot.Given g) = refl
+pub passes : (slot : Option Given) → leaves_all (slot_number slot) ≡ false
+passes None = refl
+passes (Some g) = refl
 
 module _ (cells : List ℕ) (unit : ℕ) where
   pub unit_read_refused : (offset : ℕ) → Unchanged read_number cells (unit_read cells unit offset)
@@ -73,9 +73,9 @@ module _ (cells : List ℕ) (unit : ℕ) where
   module _ (memory : List ℕ) where
     pub sent_refused : BothUnchanged move_call_number cells memory (sent_by memory (transmitter_moved cells memory unit))
     sent_refused h =
-        (ap (λ (p : Move × List ℕ). p.1) (transmitter_stays cells memory unit (ap has_moved (sym (transmitter_answers cells memory unit)) ∙ nothing (transmitter_moved cells memory unit).0 h)), refl)
+        (ap (λ (p : Result (Option ℕ) Refusal × List ℕ). p.1) (transmitter_stays cells memory unit (ap has_moved (sym (transmitter_answers cells memory unit)) ∙ nothing (transmitter_moved cells memory unit).0 h)), refl)
 
     pub received_refused : BothUnchanged move_call_number cells memory (received_by (receiver_moved cells memory unit))
     received_refused h =
         let k = receiver_stays cells memory unit (ap has_moved (sym (receiver_answers cells memory unit)) ∙ nothing (receiver_moved cells memory unit).0 h) in
-        (ap (λ (p : Move × List ℕ × List ℕ). p.1) k, ap (λ (p : Move × List ℕ × List ℕ). p.2) k)
+        (ap (λ (p : Result (Option ℕ) Refusal × List ℕ × List ℕ). p.1) k, ap (λ (p : Result (Option ℕ) Refusal × List ℕ × List ℕ). p.2) k)

@@ -1,14 +1,13 @@
 -- A slice's address is below 32, and its codes are below 4, and an address that a move missed has 18 bits: they fit in the bits that a packed
 -- answer has for them.
 -- Assumes nothing.
-use Rattle.std.specs.Prelude.{Bool, List, ℕ, ◌-◌, ◌^◌, ◌<◌, eqb, ltb}
+use Rattle.std.specs.Prelude.{Bool, List, ℕ, ◌-◌, ◌^◌, ◌<◌, eqb, ltb, Ok, Err, Option, Some, None, Result}
 use Rattle.std.proofs.Common.{arith, lit<}
 use Rattle.std.proofs.lemmas.Bool.{eqb-false}
 use Rattle.answering.specs.Choice.{open_with_another}
 use Rattle.answering.proofs.Laws.Keeps.{code_lt}
 use Rattle.bus.specs.Slice.{heard_or, slice_of, served}
 use Rattle.bus.specs.declared.slice.Given.{Given}
-use Rattle.bus.specs.declared.slice.Slot.{Slot}
 use Rattle.cells.specs.Fitted.{transmitter_of, receiver_of, master_of, put_next}
 use Rattle.cells.specs.Index.{transmitter_with, receiver_with}
 use Rattle.cells.specs.Layout.{count_in, holder_in}
@@ -26,16 +25,15 @@ use Rattle.slices.specs.declared.Alone.{Alone}
 use Rattle.slices.specs.declared.Pair.{Pair}
 use Rattle.transmitter.specs.declared.side.Transmitter.{Transmitter}
 use Rattle.words.specs.Lines.{damaged}
-use Rattle.words.specs.declared.answers.Move.{Move}
+use Rattle.words.specs.declared.answers.Refusal.{Refusal}
 use Rattle.words.specs.declared.codes.Codes.{Codes}
 use Rattle.pcl.specs.Link.{slice_call}
 use Rattle.pcl.specs.Face.{move_face}
-use Rattle.pcl.specs.Numbers.{move_packed}
+use Rattle.pcl.specs.Numbers.{move_packed, slice_packed}
 use Rattle.pcl.specs.Sides.{move_call}
 use Rattle.pcl.specs.Laws.Cases.{slice_cases, move_cases}
+use Rattle.pcl.specs.Laws.Refused.{refused_le}
 use Rattle.pcl.specs.Laws.Narrow.{Narrow, NarrowSlot, NarrowCall, ShortCall}
-use Rattle.pcl.specs.declared.answers.MoveCall.{MoveCall}
-use Rattle.pcl.specs.declared.answers.SliceCall.{SliceCall}
 
 abbrev Small : Codes → Type 0
 Small c = (c.a < 4) × (c.b < 4)
@@ -76,9 +74,9 @@ module _ (cells : List ℕ) (mask : ℕ) (parity : Bool) where
 
 pub narrow : (cells : List ℕ) (mask parity : ℕ) → NarrowCall (slice_call cells mask parity).0
 narrow cells mask parity =
-    slice_cases cells (λ (p : SliceCall × List ℕ). NarrowCall p.0) mask parity tt tt
+    slice_cases cells (λ (p : Result (Option Given) Refusal × List ℕ). NarrowCall p.0) mask parity tt tt
     (λ ok.
-    either (λ (p : Slot × List ℕ). NarrowSlot p.0) (eqb (holder_in cells) 0) (λ e. tt)
+    either (λ (p : Option Given × List ℕ). NarrowSlot p.0) (eqb (holder_in cells) 0) (λ e. tt)
     (λ some.
     let most = (in_range_says cells ok).holder in
     let u = holder_in cells - 1 in
@@ -86,18 +84,24 @@ narrow cells mask parity =
     let m = master_of cells u in
     served_narrow (put_next cells u (next_of m).side) mask (eqb parity 1) (next_of m).address (next_lt m (master_within cells u (fitted cells ok u there)))))
 
+packed_slice_lt : (c : Result (Option Given) Refusal) → NarrowCall c → slice_packed c < 2 ^ 32
+packed_slice_lt (Ok None) fits = lit< tt
+packed_slice_lt (Ok (Some g)) fits = omega (arith, fits)
+packed_slice_lt (Err refusal) fits = omega (arith, refused_le refusal)
+
+pub slice_packed_lt : (cells : List ℕ) (mask parity : ℕ) → slice_packed (slice_call cells mask parity).0 < 2 ^ 32
+slice_packed_lt cells mask parity = packed_slice_lt (slice_call cells mask parity).0 (narrow cells mask parity)
+
 -- of every move call, whatever it was lent
 pub short : (cells memory : List ℕ) (unit side : ℕ) → ShortCall (move_call cells memory unit side).0
 short cells memory unit side =
-    move_cases cells (λ (p : MoveCall × List ℕ × List ℕ). ShortCall p.0) memory unit side tt tt
+    move_cases cells (λ (p : Result (Option ℕ) Refusal × List ℕ × List ℕ). ShortCall p.0) memory unit side tt tt
     (λ ok there. transmitter_short cells memory unit (fitted cells ok unit there)) (λ ok there. receiver_short cells memory unit (fitted cells ok unit there))
 
-packed_lt : (c : MoveCall) → ShortCall c → move_packed c < 2 ^ 34
-packed_lt MoveCall.BadState fits = lit< tt
-packed_lt MoveCall.NoUnit fits = lit< tt
-packed_lt (MoveCall.Side Move.Done) fits = lit< tt
-packed_lt (MoveCall.Side (Move.Missing address)) fits = omega (arith, fits.1)
-packed_lt (MoveCall.Side Move.Nothing) fits = lit< tt
+packed_lt : (c : Result (Option ℕ) Refusal) → ShortCall c → move_packed c < 2 ^ 34
+packed_lt (Ok None) fits = lit< tt
+packed_lt (Ok (Some address)) fits = omega (arith, fits.1)
+packed_lt (Err refusal) fits = omega (arith, refused_le refusal)
 
 pub move_packed_lt : (cells memory : List ℕ) (unit side : ℕ) → (move_face cells memory unit side).0 < 2 ^ 34
 move_packed_lt cells memory unit side = packed_lt (move_call cells memory unit side).0 (short cells memory unit side)

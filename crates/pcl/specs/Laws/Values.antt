@@ -1,14 +1,14 @@
 -- A slice's number and value say all that it gave: with 0 there is an address, an A and a B, and the value has them.
 -- Assumes nothing.
-use Rattle.std.specs.Prelude.{List, ◌≡◌, refl, ℕ, ◌+◌, ◌*◌, ◌/◌}
+use Rattle.std.specs.Prelude.{List, ◌≡◌, refl, ℕ, ◌+◌, ◌*◌, ◌/◌, Some, None, Result, Ok, Err, Option}
 use Rattle.std.proofs.Common.{ap, arith}
 use Rattle.bus.specs.declared.slice.Given.{Given}
-use Rattle.bus.specs.declared.slice.Slot.{Slot}
 use Rattle.pcl.specs.Link.{slice_call}
 use Rattle.pcl.specs.Numbers.{slice_number, slice_value, given_value, address_of, a_of, b_of}
 use Rattle.pcl.specs.Laws.Narrow.{Narrow, NarrowCall}
-use Rattle.pcl.specs.declared.answers.SliceCall.{SliceCall}
 use Rattle.pcl.specs.Laws.Bounds.{narrow}
+use Rattle.pcl.specs.Laws.Refused.{refused_some}
+use Rattle.words.specs.declared.answers.Refusal.{Refusal}
 
 -- the value's parts are those of what was given
 pub record Shows (g : Given) (value : ℕ) : Type 0 where
@@ -24,14 +24,13 @@ given_shows g fits =
     record { address = omega (arith, fits); a = rw codes (omega (arith, fits)); b = rw high (omega (arith, fits)) }
 
 -- 0 is the number of what was given, and of nothing else
-pub given_by : (c : SliceCall) → slice_number c ≡ 0 → (g : Given) × (c ≡ SliceCall.Passed (Slot.Given g))
-given_by (SliceCall.Passed (Slot.Given g)) e = (g, refl)
-given_by SliceCall.BadState e = absurd (omega (arith, e))
-given_by SliceCall.BadMask e = absurd (omega (arith, e))
-given_by (SliceCall.Passed Slot.NoMaster) e = absurd (omega (arith, e))
+pub given_by : (c : Result (Option Given) Refusal) → slice_number c ≡ 0 → (g : Given) × (c ≡ Ok (Some g))
+given_by (Ok (Some g)) e = (g, refl)
+given_by (Ok None) e = absurd (omega (arith, e))
+given_by (Err refusal) e = absurd (omega (arith, e, refused_some refusal))
 
 -- of every slice call, whatever it was lent
 pub slice_shows : (cells : List ℕ) (mask parity : ℕ) (g : Given)
-    → (slice_call cells mask parity).0 ≡ SliceCall.Passed (Slot.Given g) → Shows g (slice_value (slice_call cells mask parity).0)
+    → (slice_call cells mask parity).0 ≡ Ok (Some g) → Shows g (slice_value (slice_call cells mask parity).0)
 slice_shows cells mask parity g e =
     rw (ap slice_value e) (given_shows g (rw (ap NarrowCall e) at (narrow cells mask parity)))

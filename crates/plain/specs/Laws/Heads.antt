@@ -4,7 +4,9 @@ use Rattle.std.specs.Prelude.{◌≡◌, refl, List, [], ◌∷◌, ◌++◌, �
 use Rattle.std.proofs.Common.{ap, sym, ◌∙◌, append_assoc, arith, add-one, length-set, length-append, length-take, length-drop, take-append-drop, drop-cons, take-add, drop-drop, take_at}
 use Rattle.std.proofs.lemmas.List.{take-set-le, drop-set-add, set-append_left}
 use Rattle.std.proofs.Math.Seq.{drop-append-add}
+use Rattle.codec.specs.Head.{cells_of}
 use Rattle.codec.specs.Window.{cell, window, splice}
+use Rattle.codec.specs.declared.head.Head.{Head}
 use Rattle.codec.specs.Laws.WindowLaws.{length_window, window_after}
 
 -- nine cells from a place on
@@ -84,3 +86,13 @@ module _ (cells : List ℕ) (at : ℕ) (head : List ℕ) (long : length head ≡
   head_alone =
       sym (put_back (splice cells at head) (at + 9) 64 (simp (length-append, length-take, length-drop) (omega arith)))
       ∙ head_then_silo (λ (l : List ℕ). l) (length_window cells (at + 9) 64 (omega arith))
+
+-- a head stored, and the ring as it was
+pub stored_alone : (cells : List ℕ) (at : ℕ) (h : Head) → at + 73 ≤ length cells
+    → splice cells at (cells_of h) ≡ splice cells at (cells_of h ++ window cells (at + 9) 64)
+stored_alone cells at h fits = head_alone cells at (cells_of h) refl fits
+
+-- a head stored, and then one cell of the ring set
+pub stored_with_word : (cells : List ℕ) (at : ℕ) (h : Head) → at + 73 ≤ length cells → (k word : ℕ) → k < 64
+    → set (splice cells at (cells_of h)) (at + 9 + k) word ≡ splice cells at (cells_of h ++ set (window cells (at + 9) 64) k word)
+stored_with_word cells at h fits k word few = head_then_word cells at (cells_of h) refl fits k word few

@@ -1,7 +1,7 @@
 -- A plain move on the lent cells: three cells of the head and at most one of the silo's ring are changed, and they are the cells of the side
 -- that the rule gives, written in the place of the window that stood there.
 -- Assumes nothing.
-use Rattle.std.specs.Prelude.{Bool, true, false, not, ◌&&◌, ◌||◌, ◌≡◌, refl, List, ◌++◌, ℕ, ◌+◌, ◌^◌, ◌≤◌, ◌<◌, eqb, leb, ltb, length, get_or, set}
+use Rattle.std.specs.Prelude.{Bool, true, false, not, ◌&&◌, ◌||◌, ◌≡◌, refl, List, ◌++◌, ℕ, ◌+◌, ◌^◌, ◌≤◌, ◌<◌, eqb, leb, ltb, length, get_or, set, Result, Ok, Option, None}
 use Rattle.std.proofs.Common.{ap, sym, ◌∙◌, arith, ltb-true, leb-true, eqb-true, eq-eqb, ne_eqb}
 use Rattle.std.proofs.lemmas.Bool.{not-true}
 use Rattle.codec.specs.Receivers.{enc_receiver, dec_receiver, receiver_at}
@@ -12,10 +12,8 @@ use Rattle.laws.specs.Bits.{bits, bit_at}
 use Rattle.laws.specs.Laws.Both.{left_of, right_of}
 use Rattle.plain.specs.Places.{front, behind, with_one, without_oldest}
 use Rattle.receiver.specs.Moves as R
-use Rattle.receiver.specs.declared.moves.Moved as RM
 use Rattle.transmitter.specs.Moves as T
-use Rattle.transmitter.specs.declared.moves.Moved as TM
-use Rattle.words.specs.declared.answers.Move.{Move}
+use Rattle.words.specs.declared.answers.Refusal.{Refusal}
 use Rattle.plain_moves.specs.Moving.{Plain, PlainOut, PlainIn, room_by, word_at, head_moved}
 use Rattle.plain.specs.Laws.Heads.{head_at, head_and_silo}
 use Rattle.plain_moves.proofs.Laws.MayMove.{may_out, may_in}
@@ -59,10 +57,10 @@ same_pair : {a a' b b' : List ℕ} → a ≡ a' → b ≡ b' → ◌≡◌ {A = 
 same_pair a b = rw (a, b)
 
 -- the answer and the cells of the side that a rule gives, in the place of a window that stood there, and for a receiver the memory
-abbrev pub answered : List ℕ → TM.Moved → Move × List ℕ
+abbrev pub answered : List ℕ → T.Moved → Result (Option ℕ) Refusal × List ℕ
 answered old m = (m.answer, enc_transmitter old m.side)
 
-abbrev pub answered_there : List ℕ → RM.Moved × List ℕ → Move × List ℕ × List ℕ
+abbrev pub answered_there : List ℕ → R.Moved × List ℕ → Result (Option ℕ) Refusal × List ℕ × List ℕ
 answered_there old m = (m.0.answer, enc_receiver old m.0.side, m.1)
 
 -- ---- over numbers
@@ -94,14 +92,14 @@ module _ (ring block own low count control status crc serial : ℕ) (silo : List
       (there : word_at low control < fitted) where
     pub out_moved : Plain block own 32 low count control (bit_at control 13 || bit_at status 6) → bit_at status 8 ≡ false → status < 2 ^ 15
         → T.may_move (dec_transmitter before) ≡ true
-        → ◌≡◌ {A = Move × List ℕ} (answered before (T.moved (dec_transmitter before) memory fitted))
-        (Move.Done, one_more ring block own low count control status crc serial silo (get_or memory (word_at low control) 0))
+        → ◌≡◌ {A = Result (Option ℕ) Refusal × List ℕ} (answered before (T.moved (dec_transmitter before) memory fitted))
+        (Ok None, one_more ring block own low count control status crc serial silo (get_or memory (word_at low control) 0))
     out_moved p going settled may =
         let room = (out_says may).1 in
         let word = get_or memory (word_at low control) 0 in
         let a : bit_at status 15 ≡ false = ne_eqb (bits status 15 1) 1 (omega arith) in
         ap (answered before) (transmitter_moved ring block own low count control status crc serial silo cells64 (omega (arith, p.low15)) (omega (arith, p.count15)) p.loaded p.goes memory fitted there may (out_says may).0 room)
-        ∙ ap (λ (l : List ℕ). (Move.Done, l))
+        ∙ ap (λ (l : List ℕ). (Ok None, l))
         (transmitter_kept (with_one ring) block own (low + 1) (count + 1) control status crc serial (set silo (behind ring) word)
         (record { since = p.since; low15 = omega arith; count15 = omega arith; control16 = control16; status16 = status16; crc16 = crc16; serial16 = serial16 })
         before (parts_put ring block own low count control status crc serial silo cells64 room word)
@@ -170,8 +168,8 @@ module _ (cells : List ℕ) (at : ℕ) (fits : at + 73 ≤ length cells) where
 
   module _ (words : (i : ℕ) → cell cells i < 2 ^ 16) (memory : List ℕ) (fitted : ℕ) (there : word_at low control < fitted) where
     pub out_plain : PlainOut cells at → T.may_move (transmitter_at cells at) ≡ true
-        → ◌≡◌ {A = Move × List ℕ} (answered (window cells at 73) (T.moved (transmitter_at cells at) memory fitted))
-        (Move.Done, head_moved cells at (with_one ring) ++ set silo (behind ring) (get_or memory (word_at low control) 0))
+        → ◌≡◌ {A = Result (Option ℕ) Refusal × List ℕ} (answered (window cells at 73) (T.moved (transmitter_at cells at) memory fitted))
+        (Ok None, head_moved cells at (with_one ring) ++ set silo (behind ring) (get_or memory (word_at low control) 0))
     out_plain p may =
         let same = head_and_silo cells at fits in
         ap (λ (w : List ℕ). answered w (T.moved (dec_transmitter w) memory fitted)) same
@@ -180,8 +178,8 @@ module _ (cells : List ℕ) (at : ℕ) (fits : at + 73 ≤ length cells) where
         (ap (λ (w : List ℕ). T.may_move (dec_transmitter w)) (sym same) ∙ may)
 
     pub in_plain : PlainIn cells at → R.may_move (receiver_at cells at) ≡ true
-        → ◌≡◌ {A = Move × List ℕ × List ℕ} (answered_there (window cells at 73) (R.moved (receiver_at cells at) memory fitted))
-        (Move.Done, head_moved cells at (without_oldest ring) ++ silo, set memory (word_at low control) (cell cells (at + 9 + front ring)))
+        → ◌≡◌ {A = Result (Option ℕ) Refusal × List ℕ × List ℕ} (answered_there (window cells at 73) (R.moved (receiver_at cells at) memory fitted))
+        (Ok None, head_moved cells at (without_oldest ring) ++ silo, set memory (word_at low control) (cell cells (at + 9 + front ring)))
     in_plain p may =
         let same = head_and_silo cells at fits in
         let first : get_or silo (front ring) 0 ≡ cell cells (at + 9 + front ring) = cell_window cells (at + 9) 64 (front ring) (omega arith) in
@@ -193,4 +191,4 @@ module _ (cells : List ℕ) (at : ℕ) (fits : at + 73 ≤ length cells) where
         (words (at + 5)) (words (at + 6)) (words (at + 7)) (words (at + 8)) cells64 memory fitted there p.head (in_some may) p.few in
         ap (λ (w : List ℕ). answered_there w (R.moved (dec_receiver w) memory fitted)) same
         ∙ ap (answered_there (head_at cells at ++ silo)) moved
-        ∙ ap (λ (l : List ℕ × List ℕ). (Move.Done, l.0, l.1)) (same_pair kept (ap (set memory (word_at low control)) first))
+        ∙ ap (λ (l : List ℕ × List ℕ). (Ok None, l.0, l.1)) (same_pair kept (ap (set memory (word_at low control)) first))

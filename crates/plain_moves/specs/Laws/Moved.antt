@@ -1,6 +1,6 @@
 -- A plain move: the load goes on by a word within its 15 bits, and a word goes into the silo or out of it.
 -- Assumes nothing.
-use Rattle.std.specs.Prelude.{Bool, true, false, not, ◌&&◌, ◌≡◌, refl, List, ℕ, ◌+◌, ◌*◌, ◌/◌, ◌%◌, ◌^◌, ◌≤◌, ◌<◌, length, get_or, set, take}
+use Rattle.std.specs.Prelude.{Bool, true, false, not, ◌&&◌, ◌≡◌, refl, List, ℕ, ◌+◌, ◌*◌, ◌/◌, ◌%◌, ◌^◌, ◌≤◌, ◌<◌, length, get_or, set, take, Ok}
 use Rattle.std.proofs.Common.{ap, sym, ◌∙◌, arith, lt-ltb, ne_eqb, lit≤, length-set, take_all}
 use Rattle.codec.specs.Ends.{RING, SILO, silo_in, load_of}
 use Rattle.codec.specs.Receivers.{dec_receiver}
@@ -13,7 +13,6 @@ use Rattle.plain.specs.Places.{front, behind, with_one, without_oldest}
 use Rattle.plain.specs.Laws.PlaceLaws.{parts, read_of, sized, parts_read, put_parts, taken_parts, oldest_there}
 use Rattle.receiver.specs.Groups as RG
 use Rattle.receiver.specs.Moves as R
-use Rattle.receiver.specs.declared.moves.Moved as RM
 use Rattle.receiver.specs.declared.side.Receiver.{Receiver}
 use Rattle.silos.specs.Silo.{put, taken, oldest}
 use Rattle.silos.specs.Laws.Laws.{sized_put, sized_taken}
@@ -26,7 +25,6 @@ use Rattle.transmitter.specs.declared.side.Transmitter.{Transmitter}
 use Rattle.words.specs.Address.{at, place_of}
 use Rattle.words.specs.Count.{in_bytes}
 use Rattle.words.specs.Load.{word_moved}
-use Rattle.words.specs.declared.address.Place.TheVariants.{Inside}
 use Rattle.words.specs.declared.load.Advance.{Advance}
 use Rattle.words.specs.declared.load.Load.{Load}
 use Rattle.plain_moves.specs.Moving.{word_at}
@@ -51,7 +49,7 @@ module _ (low count control : ℕ) (low15 : low < 32767) (count15 : count < 3276
       ap (word_moved (load_of low count control)) goes
       ∙ same_advance (omega arith) (rw (ne_eqb n 0 (λ (z : n ≡ 0). omega arith), loaded)) (omega arith) (ne_eqb a 262142 (λ (z : a ≡ 262142). omega arith))
 
-  inside : (fitted : ℕ) → word_at low control < fitted → place_of (load_of low count control).address.0 fitted ≡ Inside (word_at low control)
+  inside : (fitted : ℕ) → word_at low control < fitted → place_of (load_of low count control).address.0 fitted ≡ Ok (word_at low control)
   inside fitted h =
       let e : (bits control 4 2 * 2 ^ 16 + low % 2 ^ 15 * 2) / 2 ≡ word_at low control = omega arith in
       rw (e, lt-ltb (word_at low control) fitted h)
@@ -61,7 +59,7 @@ same_sender : (t : Transmitter) (l : Load) {s s' : Silo} {m m' : Modes} → s �
 same_sender t l s m = rw (s, m)
 
 same_stored : (memory : List ℕ) (at : ℕ) {r r' : Receiver} {word word' : ℕ} → r ≡ r' → word ≡ word'
-    → ◌≡◌ {A = RM.Moved × List ℕ} (R.done_with r, set memory at word) (R.done_with r', set memory at word')
+    → ◌≡◌ {A = R.Moved × List ℕ} (R.done_with r, set memory at word) (R.done_with r', set memory at word')
 same_stored memory at r w = rw (r, w)
 
 -- ---- the cells of either side: a word more, a word fewer

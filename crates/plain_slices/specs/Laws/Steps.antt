@@ -1,14 +1,15 @@
 -- The plain slice on the lent cells: two windows that pass the tests are two ends in step, and what each kind of slice makes of them.
 -- Assumes nothing.
-use Rattle.std.specs.Prelude.{true, false, ◌&&◌, List, ◌∷◌, ◌++◌, ◌≡◌, refl, ℕ, ◌+◌, ◌-◌, ◌*◌, ◌/◌, ◌%◌, ◌^◌, ◌≤◌, ◌<◌, min, eqb, leb, ltb, length, get_or, set}
-use Rattle.std.proofs.Common.{⊎_elim, ap, sym, ◌∙◌, add-zero, not-suc-le-zero, arith, leb-true, ltb-true, eqb-true, eq-eqb, lit≤, lit<}
+use Rattle.std.specs.Prelude.{true, false, ◌&&◌, List, ◌∷◌, ◌++◌, ◌≡◌, refl, ℕ, ◌+◌, ◌-◌, ◌*◌, ◌/◌, ◌%◌, ◌^◌, ◌≤◌, ◌<◌, min, eqb, leb, ltb, length, get_or, set, None, Some}
+use Rattle.std.proofs.Common.{⊎_elim, ap, sym, ◌∙◌, add-zero, arith, leb-true, ltb-true, eqb-true, eq-eqb, lit≤, lit<}
+use Rattle.std.proofs.lemmas.Bool.{eqb-false}
 use Rattle.answering.specs.Choice.{open_with_another}
 use Rattle.answering.specs.Laws.Listening.{after_word, after_crc, after_due}
 use Rattle.codec.specs.Receivers.{enc_receiver, dec_receiver, receiver_at}
 use Rattle.codec.specs.Transmitters.{enc_transmitter, dec_transmitter, transmitter_at}
 use Rattle.codec.specs.Window.{cell, window, splice}
 use Rattle.codec.specs.Laws.WindowLaws.{length_splice, length_window, window_before, window_after, cell_window, cell_before, cell_past}
-use Rattle.laws.specs.Bits.{bits}
+use Rattle.laws.specs.Bits.{on, bits}
 use Rattle.laws.specs.Laws.Both.{left_of, right_of}
 use Rattle.receiver.specs.declared.side.Receiver.{Receiver}
 use Rattle.sending.specs.Choice.{all_sent}
@@ -361,8 +362,14 @@ module _ (cells : List ℕ) (t r from : ℕ) (placed : Placed cells t r) (s : St
 
 -- ---- a slice that was tried
 
-pub nothing_done : (cells : List ℕ) (t r from : ℕ) → Tried cells t r from 0 cells
-nothing_done cells t r from = (λ e. refl, λ (h : 1 ≤ 0). absurd (not-suc-le-zero h))
+pub nothing_done : (cells : List ℕ) (t r from : ℕ) → Tried cells t r from None cells
+nothing_done cells t r from = refl
 
-pub done : (cells : List ℕ) (t r from b : ℕ) (after : List ℕ) → 1 ≤ b → Carried cells t r from b after → Tried cells t r from b after
-done cells t r from b after some carried = (λ (e : b ≡ 0). absurd (omega arith), λ h. carried)
+pub done : (cells : List ℕ) (t r from b : ℕ) (after : List ℕ) → 1 ≤ b → Carried cells t r from b after → Tried cells t r from (Some b) after
+done cells t r from b after some carried = carried
+
+-- a bit that was found clear
+pub clear_at : (n : ℕ) → on (n % 2) ≡ false → n % 2 ≡ 0
+clear_at n e =
+    let other = eqb-false (n % 2) 1 e in
+    omega arith

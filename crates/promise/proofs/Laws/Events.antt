@@ -1,6 +1,6 @@
 -- Every event that the conditions allow takes the message on as its kind says.
 -- Assumes nothing.
-use Rattle.std.specs.Prelude.{not, List, ◌≡◌, refl, ℕ, ltb, length, set}
+use Rattle.std.specs.Prelude.{not, List, ◌≡◌, refl, ℕ, ltb, length, set, Result}
 use Rattle.std.proofs.Common.{ap, sym}
 use Rattle.promise.specs.Kinds.{kind_of, quiet}
 use Rattle.delivery.specs.Laws.Slices.{State}
@@ -10,7 +10,6 @@ use Rattle.laws.specs.Pick.{either}
 use Rattle.outcomes.specs.Unchanged.{leaves_all}
 use Rattle.pcl.specs.Link.{fit_call, room_for}
 use Rattle.pcl.specs.Numbers.{fit_number}
-use Rattle.pcl.specs.declared.answers.FitCall.{FitCall}
 use Rattle.promise.specs.Conditions.{Allowed, HostWrite}
 use Rattle.promise.proofs.Laws.Follows.{Follows, nothing_done, quiet_follows, undisturbed}
 use Rattle.promise.proofs.Laws.Memories.{written_elsewhere}
@@ -22,16 +21,17 @@ use Rattle.promise.proofs.Laws.Standing.{Standing}
 use Rattle.promise.proofs.Laws.UnitEvents.{period_follows, read_follows, reset_follows}
 use Rattle.promise.specs.World.{World, Event, fit, write, write_byte, read, slice, move, period, reset, level, serial, host_write, step, with_cells, with_memory}
 use Rattle.promise.proofs.Laws.WriteEvents.{byte_follows, write_follows}
+use Rattle.words.specs.declared.answers.Refusal.{Refusal}
 
 module _ (p : Parties) (start : World) (o : Opens p start) (q : State) (w : World) (s : Standing p start q w) where
   -- a fit is refused
   fit_follows : (setup : List ℕ) → Allowed p (message_in p start) (fit setup) w → Follows p start q w quiet (step (fit setup) w)
   fit_follows setup allowed =
-      let By : FitCall × List ℕ → Type 0 = λ r. fit_call w.cells setup ≡ r → Follows p start q w quiet (with_cells w r.1) in
+      let By : Result (Unit {0}) Refusal × List ℕ → Type 0 = λ r. fit_call w.cells setup ≡ r → Follows p start q w quiet (with_cells w r.1) in
       let none = undisturbed p start q w s w.cells (nothing_done p start q w s) in
       either By (ltb (length w.cells) (room_for (count_of setup))) (λ e c. none)
       (λ e. either By (not (set_up_good setup)) (λ e c. none)
-      (λ e c. absurd (allowed (ap (λ (r : FitCall × List ℕ). leaves_all (fit_number r.0)) c)))) refl
+      (λ e c. absurd (allowed (ap (λ (r : Result (Unit {0}) Refusal × List ℕ). leaves_all (fit_number r.0)) c)))) refl
 
   host_follows : (unit place word : ℕ) → Allowed p (message_in p start) (host_write unit place word) w
       → Follows p start q w quiet (step (host_write unit place word) w)

@@ -1,6 +1,6 @@
 -- A move call where a message stands: T's and R's take their words, and every other leaves both ends, the sent stretch and R's memory.
 -- Assumes nothing.
-use Rattle.std.specs.Prelude.{true, not, List, ◌≡◌, refl, ℕ, ◌+◌, ◌<◌, eqb, leb, ltb, length, get_or}
+use Rattle.std.specs.Prelude.{true, not, List, ◌≡◌, refl, ℕ, ◌+◌, ◌<◌, eqb, leb, ltb, length, get_or, Result, Option, Err}
 use Rattle.std.proofs.Common.{ap, ap₂, subst, sym, ◌∙◌, eq-eqb, eqb-true, leb-false}
 use Rattle.std.proofs.Math.Path.{subst⁻¹}
 use Rattle.std.proofs.lemmas.Bool.{eqb-false}
@@ -8,7 +8,7 @@ use Rattle.cells.specs.Fitted.{transmitter_of, receiver_of}
 use Rattle.cells.specs.Layout.{count_in, memory_length}
 use Rattle.cells.specs.Ranges.{in_range}
 use Rattle.delivery.specs.Ends.{Ends, Message}
-use Rattle.words.specs.declared.answers.Move.{Move}
+use Rattle.words.specs.declared.answers.Refusal.{Refusal}
 use Rattle.promise.specs.Kinds.{quiet}
 use Rattle.delivery.specs.Laws.Invariant.{Delivering}
 use Rattle.delivery.proofs.Laws.Moves.{receiver_moves, transmitter_moves}
@@ -23,9 +23,7 @@ use Rattle.outcomes.specs.Unchanged.{leaves_all}
 use Rattle.outcomes.specs.Laws.RefusedSides.{nothing}
 use Rattle.pcl.specs.Numbers.{move_call_number}
 use Rattle.pcl.specs.Sides.{move_call, received_by, sent_by}
-use Rattle.pcl.specs.declared.answers.MoveCall.{MoveCall}
 use Rattle.receiver.specs.Moves as R
-use Rattle.receiver.specs.declared.moves.Moved as RD
 use Rattle.receiver.specs.declared.side.Receiver.{Receiver}
 use Rattle.transmitter.specs.Moves as T
 use Rattle.transmitter.specs.declared.side.Transmitter.{Transmitter}
@@ -64,7 +62,7 @@ module _ (p : Parties) (start : World) (o : Opens p start) (q : State) (w : Worl
 
   -- ---- a call that is not done
 
-  not_moved : (answer : MoveCall) → Follows p start q w quiet (moved_by w unit (answer, cells, memory))
+  not_moved : (answer : Result (Option ℕ) Refusal) → Follows p start q w quiet (moved_by w unit (answer, cells, memory))
   not_moved answer =
       quiet_follows p start o q w s (stays s.ranged) refl refl (with_memory w.memory unit memory)
       (with_unwritten x.transmitter x.receiver s.delivering)
@@ -90,7 +88,7 @@ module _ (p : Parties) (start : World) (o : Opens p start) (q : State) (w : Worl
 
     -- ---- R's, and another receiver's
 
-    abbrev both : RD.Moved × List ℕ
+    abbrev both : R.Moved × List ℕ
     both = R.moved (receiver_of cells unit) memory (memory_length cells unit)
 
     -- what the memory of the unit becomes
@@ -108,7 +106,7 @@ module _ (p : Parties) (start : World) (o : Opens p start) (q : State) (w : Worl
         let same : R.moved (receiver_of cells p.receiver) (w.memory p.receiver) m.receiving_length ≡ both =
         ap (R.moved (receiver_of cells p.receiver) (w.memory p.receiver)) (sym (length_same p start o q w s p.receiver))
         ∙ ap (λ (k : ℕ). R.moved (receiver_of cells k) (w.memory k) (memory_length cells k)) mine in
-        let Put : ℕ → RD.Moved × List ℕ → Type 0 = λ k v.
+        let Put : ℕ → R.Moved × List ℕ → Type 0 = λ k v.
         Delivering m q
         (record { transmitter = x.transmitter; receiver = v.0.side; sending = pick (eqb p.sender k) v.1 x.sending; receiving = v.1 }) in
         quiet_follows p start o q w s (receiver_move cells s.ranged memory unit fitted) refl refl (with_memory w.memory unit new)
@@ -117,11 +115,11 @@ module _ (p : Parties) (start : World) (o : Opens p start) (q : State) (w : Worl
         (subst (λ (k : ℕ). Put k both) mine (subst (Put p.receiver) same (receiver_moves m q x s.delivering)))))
 
     -- a receiver's move that is not done leaves the memory
-    refused_keeps : leaves_all (move_call_number (MoveCall.Side (Moving.receiver_moved cells memory unit).0)) ≡ true → SentKept p m w after_receiver
+    refused_keeps : leaves_all (move_call_number (Moving.receiver_moved cells memory unit).0) ≡ true → SentKept p m w after_receiver
     refused_keeps refused i h =
         ap (λ (l : List ℕ). get_or l (m.source + i) 0)
         (replaced_same w.memory unit new p.sender
-        (λ e. ap (λ (v : Move × List ℕ × List ℕ). v.2) (receiver_stays cells memory unit (ap has_moved (sym (receiver_answers cells memory unit)) ∙ nothing (Moving.receiver_moved cells memory unit).0 refused))))
+        (λ e. ap (λ (v : Result (Option ℕ) Refusal × List ℕ × List ℕ). v.2) (receiver_stays cells memory unit (ap has_moved (sym (receiver_answers cells memory unit)) ∙ nothing (Moving.receiver_moved cells memory unit).0 refused))))
 
     received_elsewhere : (p.receiver ≡ unit → ⊥) → SentKept p m w after_receiver → Follows p start q w quiet after_receiver
     received_elsewhere theirs kept =
@@ -132,17 +130,17 @@ module _ (p : Parties) (start : World) (o : Opens p start) (q : State) (w : Worl
 -- ---- the call
 
 module _ (p : Parties) (start : World) (o : Opens p start) (q : State) (w : World) (s : Standing p start q w) (unit side : ℕ) where
-  abbrev By : MoveCall × List ℕ × List ℕ → Type 0
+  abbrev By : Result (Option ℕ) Refusal × List ℕ × List ℕ → Type 0
   By r = move_call w.cells (w.memory unit) unit side ≡ r → Follows p start q w quiet (moved_by w unit r)
 
   pub move_follows : Allowed p (message_in p start) (move unit side) w → Follows p start q w quiet (step (move unit side) w)
   move_follows allowed =
       let none = not_moved p start o q w s unit in
-      either By (not (in_range w.cells)) (λ e c. none MoveCall.BadState)
-      (λ ok. either By (leb (count_in w.cells) unit) (λ e c. none MoveCall.NoUnit)
+      either By (not (in_range w.cells)) (λ e c. none (Err Refusal.BadState))
+      (λ ok. either By (leb (count_in w.cells) unit) (λ e c. none (Err Refusal.NoUnit))
       (λ some.
       let fitted = leb-false (count_in w.cells) unit some in
-      either By (ltb (length (w.memory unit)) (memory_length w.cells unit)) (λ e c. none MoveCall.BadState)
+      either By (ltb (length (w.memory unit)) (memory_length w.cells unit)) (λ e c. none (Err Refusal.BadState))
       (λ e. either By (eqb side 0) (λ e c. sent p start o q w s unit fitted)
       (λ e. either By (eqb side 1)
       (λ e c.
@@ -151,8 +149,8 @@ module _ (p : Parties) (start : World) (o : Opens p start) (q : State) (w : Worl
       let theirs = eqb-false p.receiver unit other in
       let answer = (Moving.receiver_moved w.cells (w.memory unit) unit).0 in
       received_elsewhere p start o q w s unit fitted theirs
-      (by (leaves_all (move_call_number (MoveCall.Side answer))) (refused_keeps p start o q w s unit fitted)
+      (by (leaves_all (move_call_number answer)) (refused_keeps p start o q w s unit fitted)
       (λ done.
-      subst (λ (r : MoveCall × List ℕ × List ℕ). SentKept p (message_in p start) w (moved_by w unit r)) c
-      (allowed (ap (λ (r : MoveCall × List ℕ × List ℕ). leaves_all (move_call_number r.0)) c ∙ done) (λ here. theirs (sym here)))))))
-      (λ e c. none MoveCall.NoUnit))))) refl
+      subst (λ (r : Result (Option ℕ) Refusal × List ℕ × List ℕ). SentKept p (message_in p start) w (moved_by w unit r)) c
+      (allowed (ap (λ (r : Result (Option ℕ) Refusal × List ℕ × List ℕ). leaves_all (move_call_number r.0)) c ∙ done) (λ here. theirs (sym here)))))))
+      (λ e c. none (Err Refusal.NoUnit)))))) refl

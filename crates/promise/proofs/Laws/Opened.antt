@@ -1,6 +1,6 @@
 -- The opening slice: the message stands as opened, and T's address is in the ring.
 -- Assumes nothing.
-use Rattle.std.specs.Prelude.{true, false, List, [], ◌∷◌, ◌≡◌, refl, ℕ, ◌<◌, length, get_or}
+use Rattle.std.specs.Prelude.{true, false, List, [], ◌∷◌, ◌≡◌, refl, ℕ, ◌<◌, length, get_or, Result, Ok, Option}
 use Rattle.std.proofs.Common.{ap, sym, ◌∙◌, arith, eqb-true}
 use Rattle.std.proofs.Math.Path.{subst⁻¹}
 use Rattle.frames.specs.Laws.Leaves.{stays, still_fitted, transmitter_within, receiver_within}
@@ -16,7 +16,6 @@ use Rattle.frames.specs.Laws.Slices.{SlicePasses, next_address, next_on, slice_h
 use Rattle.frames.specs.Laws.Kept.{kept_all}
 use Rattle.master.specs.Laws.Rotation.{Among, rotated}
 use Rattle.pcl.specs.Link.{slice_call}
-use Rattle.pcl.specs.declared.answers.SliceCall.{SliceCall}
 use Rattle.slices.specs.Slice.{exchanged}
 use Rattle.promise.proofs.Laws.Exchanges.{exchange_stands}
 use Rattle.promise.proofs.Laws.SliceCalls.{ring_first, ring_turns, slice_call_lem, slot_in}
@@ -24,6 +23,8 @@ use Rattle.promise.specs.Opening.{Parties, ends_of, message_in}
 use Rattle.promise.proofs.Laws.Opens.{Opens}
 use Rattle.promise.proofs.Laws.Standing.{Standing, ring_of}
 use Rattle.promise.specs.World.{World, slice, step, with_cells}
+use Rattle.words.specs.declared.answers.Refusal.{Refusal}
+use Rattle.bus.specs.declared.slice.Given.{Given}
 
 module _ (p : Parties) (start : World) (o : Opens p start) where
   abbrev m : Message
@@ -35,7 +36,7 @@ module _ (p : Parties) (start : World) (o : Opens p start) where
   abbrev address : ℕ
   address = next_address cells p.master
 
-  call : slice_call cells 0 0 ≡ (SliceCall.Passed (slot_in cells 0 false p.master), (slice_passed cells 0 false).1)
+  call : slice_call cells 0 0 ≡ (Ok (slot_in cells 0 false p.master), (slice_passed cells 0 false).1)
   call = slice_call_lem cells o.ranged 0 0 p.master o.mastered refl
 
   heard : SlicePasses cells 0 false p.master (heard_on (next_on cells p.master) p.sender p.receiver address 0 false)
@@ -56,7 +57,7 @@ module _ (p : Parties) (start : World) (o : Opens p start) where
       let d =
       Delivery.opened x m.from m.sending_length m.receiving_length m.shared o.conditions o.answered one_memory
       (transmitter_within (stays o.ranged) p.sender o.sender_fitted) (receiver_within (stays o.ranged) p.receiver o.receiver_fitted) in
-      subst⁻¹ (λ (c : SliceCall × List ℕ). Standing p start Slices.opened (with_cells start c.1)) call
+      subst⁻¹ (λ (c : Result (Option Given) Refusal × List ℕ). Standing p start Slices.opened (with_cells start c.1)) call
       (exchange_stands p start start (kept_all cells) o.mastered o.sender_fitted o.receiver_fitted 0 false Slices.opened heard
       (subst⁻¹ (λ (a : ℕ). Delivering m Slices.opened (with x (exchanged t r a 0 false))) o.given d))
 
@@ -73,5 +74,5 @@ module _ (p : Parties) (start : World) (o : Opens p start) where
 
   pub opened_turns : ring_of p (step (slice 0 0) start) ≡ rotated (ring_of p start)
   opened_turns =
-      subst⁻¹ (λ (c : SliceCall × List ℕ). ring_of p (with_cells start c.1) ≡ rotated (ring_of p start)) call
+      subst⁻¹ (λ (c : Result (Option Given) Refusal × List ℕ). ring_of p (with_cells start c.1) ≡ rotated (ring_of p start)) call
       (ring_turns cells o.ranged 0 false p.master o.mastered)

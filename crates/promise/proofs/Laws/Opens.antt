@@ -1,12 +1,11 @@
 -- What an opening says of its parties: the slice call that is answered 0 with B 11 shows that there is a master, and that the address it
 -- gives is T's, whose destination is R's.
 -- Assumes nothing.
-use Rattle.std.specs.Prelude.{true, false, not, List, ◌≡◌, refl, ℕ, ◌+◌, ◌-◌, ◌<◌, ltb}
+use Rattle.std.specs.Prelude.{true, false, not, List, ◌≡◌, refl, ℕ, ◌+◌, ◌-◌, ◌<◌, ltb, Option, Some, None, Result, Ok, Err}
 use Rattle.std.proofs.Common.{ap, subst, sym, ◌∙◌, arith, eq-eqb, ltb-true}
 use Rattle.std.proofs.Math.Path.{subst⁻¹}
 use Rattle.bus.specs.Masterless.{without_master}
 use Rattle.bus.specs.declared.slice.Given.{Given}
-use Rattle.bus.specs.declared.slice.Slot.{Slot}
 use Rattle.cells.specs.Fitted.{transmitter_of, receiver_of}
 use Rattle.cells.specs.Layout.{count_in, holder_in, transmitter_address}
 use Rattle.cells.specs.Ranges.{in_range}
@@ -17,13 +16,11 @@ use Rattle.frames.specs.Laws.Leaves.{master_within, stays, transmitter_within}
 use Rattle.frames.specs.Laws.Serving.{receiver_is, receiver_for, served_on, unit_has, unit_is, unit_for}
 use Rattle.frames.specs.Laws.Sides.{Sides}
 use Rattle.frames.specs.Laws.Slices.{master_fitted, next_address, next_on}
-use Rattle.cells.specs.Ranges.{in_range}
 use Rattle.laws.specs.Pick.{by, either, here, past}
 use Rattle.master.specs.Laws.Laws.{next_lt}
 use Rattle.pcl.specs.Link.{passed_by, slice_call}
 use Rattle.pcl.specs.Numbers.{address_of, slice_number, slice_value}
 use Rattle.pcl.specs.Laws.Values as Values
-use Rattle.pcl.specs.declared.answers.SliceCall.{SliceCall}
 use Rattle.sending.specs.Choice.{acts_on, chosen, destination_of}
 use Rattle.slices.specs.Slice.{exchanged, sent_alone}
 use Rattle.slices.specs.declared.Alone.{Alone}
@@ -32,6 +29,7 @@ use Rattle.words.specs.declared.codes.Codes.{Codes}
 use Rattle.promise.proofs.Laws.SliceCalls.{slice_call_lem, slot_in}
 use Rattle.promise.specs.Opening.{AtOpening, Opening, Parties, parties_of, undamaged}
 use Rattle.promise.specs.World.{World}
+use Rattle.words.specs.declared.answers.Refusal.{Refusal}
 
 -- all that the proof takes from an opening
 pub record Opens (p : Parties) (w : World) : Type 0 where
@@ -73,17 +71,17 @@ module _ (cells : List ℕ) (s : Sides) (from : ℕ) where
 -- ---- a slice call that is answered 0 has a state in range, and a master
 
 module _ (cells : List ℕ) (done : slice_number (slice_call cells 0 0).0 ≡ 0) where
-  never : {r : SliceCall × List ℕ} → r ≡ slice_call cells 0 0 → (slice_number r.0 ≡ 0 → ⊥) → ⊥
-  never e nonzero = nonzero (ap (λ (c : SliceCall × List ℕ). slice_number c.0) e ∙ done)
+  never : {r : Result (Option Given) Refusal × List ℕ} → r ≡ slice_call cells 0 0 → (slice_number r.0 ≡ 0 → ⊥) → ⊥
+  never e nonzero = nonzero (ap (λ (c : Result (Option Given) Refusal × List ℕ). slice_number c.0) e ∙ done)
 
   ranged : in_range cells ≡ true
-  ranged = by (in_range cells) (λ e. e) (λ out. absurd (never {r = (SliceCall.BadState, cells)} (here _ (ap not out) refl) (λ e. omega arith)))
+  ranged = by (in_range cells) (λ e. e) (λ out. absurd (never {r = (Err Refusal.BadState, cells)} (here _ (ap not out) refl) (λ e. omega arith)))
 
   held : holder_in cells ≡ (holder_in cells - 1) + 1
   held =
       let some : holder_in cells ≡ 0 → ⊥ =
-      λ none. never {r = (SliceCall.Passed Slot.NoMaster, without_master cells)}
-      (past _ (ap not ranged) (past (SliceCall.BadMask, cells) refl (ap passed_by (here _ (eq-eqb (holder_in cells) 0 none) refl)))) (λ e. omega arith) in
+      λ none. never {r = (Ok None, without_master cells)}
+      (past _ (ap not ranged) (past (Err Refusal.BadMask, cells) refl (ap passed_by (here _ (eq-eqb (holder_in cells) 0 none) refl)))) (λ e. omega arith) in
       omega (arith, some)
 
 -- ---- the opening
@@ -125,18 +123,17 @@ module _ (w : World) (ok : in_range w.cells ≡ true) (indexed : Indexed w.cells
         conditions = c;
       }
 
-abbrev slot_is : SliceCall → Slot
-slot_is SliceCall.BadState = Slot.NoMaster
-slot_is SliceCall.BadMask = Slot.NoMaster
-slot_is (SliceCall.Passed s) = s
+abbrev slot_is : Result (Option Given) Refusal → Option Given
+slot_is (Ok s) = s
+slot_is (Err refusal) = None
 
-abbrev address_given : Slot → ℕ
-address_given Slot.NoMaster = 0
-address_given (Slot.Given g) = g.address
+abbrev address_given : Option Given → ℕ
+address_given None = 0
+address_given (Some g) = g.address
 
-abbrev answer_given : Slot → ℕ
-answer_given Slot.NoMaster = 0
-answer_given (Slot.Given g) = g.codes.b
+abbrev answer_given : Option Given → ℕ
+answer_given None = 0
+answer_given (Some g) = g.codes.b
 
 pub opens : (w : World) → Opening w → Opens (parties_of w) w
 opens w o =
@@ -145,10 +142,10 @@ opens w o =
     let from = address_of (slice_value (undamaged w)) in
     let ok = ranged cells o.answered in
     let mastered = held cells o.answered in
-    let (g, is) : (g : Given) × (undamaged w ≡ SliceCall.Passed (Slot.Given g)) = Values.given_by (undamaged w) o.answered in
+    let (g, is) : (g : Given) × (undamaged w ≡ Ok (Some g)) = Values.given_by (undamaged w) o.answered in
     let shows = Values.slice_shows cells 0 0 g is in
-    let slot : slot_in cells 0 false m ≡ Slot.Given g =
-    ap (λ (r : SliceCall × List ℕ). slot_is r.0) (sym (slice_call_lem cells ok 0 0 m mastered refl)) ∙ ap slot_is is in
+    let slot : slot_in cells 0 false m ≡ Some g =
+    ap (λ (r : Result (Option Given) Refusal × List ℕ). slot_is r.0) (sym (slice_call_lem cells ok 0 0 m mastered refl)) ∙ ap slot_is is in
     let same : next_address cells m ≡ from = ap address_given slot ∙ sym shows.address in
     found w ok o.indexed m from mastered same
     (subst (λ (a : ℕ). (served_on cells (next_on cells m) a 0 false).0.b ≡ 3) same (ap answer_given slot ∙ sym shows.b ∙ o.acknowledged))

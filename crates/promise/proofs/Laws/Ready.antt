@@ -1,6 +1,6 @@
 -- A message under way whose memories are lent whole: a move of T's or of R's, and a slice after them, are allowed and do what is asked.
 -- Assumes nothing.
-use Rattle.std.specs.Prelude.{true, false, List, ◌≡◌, refl, ℕ, ◌+◌, ◌-◌, ◌≤◌, ◌<◌, eqb, length, get_or}
+use Rattle.std.specs.Prelude.{true, false, List, ◌≡◌, refl, ℕ, ◌+◌, ◌-◌, ◌≤◌, ◌<◌, eqb, length, get_or, Result, Option}
 use Rattle.std.proofs.Common.{ap, sym, ◌∙◌, eqb-true}
 use Rattle.std.proofs.Math.Path.{subst⁻¹}
 use Rattle.cells.specs.Fitted.{transmitter_of, receiver_of}
@@ -15,7 +15,6 @@ use Rattle.laws.specs.Pick.{either, pick}
 use Rattle.moves.specs.Moving.{receiver_moved, transmitter_moved}
 use Rattle.pcl.specs.Numbers.{move_call_number}
 use Rattle.pcl.specs.Sides.{move_call, received_by, sent_by}
-use Rattle.pcl.specs.declared.answers.MoveCall.{MoveCall}
 use Rattle.receiver.specs.Moves as R
 use Rattle.receiver.specs.declared.side.Receiver.{Receiver}
 use Rattle.transmitter.specs.Moves as T
@@ -29,6 +28,7 @@ use Rattle.promise.specs.Opening.{Parties, ends_of, message_in}
 use Rattle.promise.proofs.Laws.Opens.{Opens}
 use Rattle.promise.proofs.Laws.Standing.{Standing, ring_of}
 use Rattle.promise.specs.World.{World, move, slice, step}
+use Rattle.words.specs.declared.answers.Refusal.{Refusal}
 
 module _ (p : Parties) (start : World) (o : Opens p start) where
   abbrev m : Message
@@ -84,7 +84,7 @@ module _ (p : Parties) (start : World) (o : Opens p start) where
     pub sender_may : Allowed p m (move p.sender 0) w
     sender_may done theirs i h =
         ap (λ (l : List ℕ). get_or l (m.source + i) 0)
-        (replaced_same w.memory p.sender _ p.sender (λ e. ap (λ (v : MoveCall × List ℕ × List ℕ). v.2) sender_calls))
+        (replaced_same w.memory p.sender _ p.sender (λ e. ap (λ (v : Result (Option ℕ) Refusal × List ℕ × List ℕ). v.2) sender_calls))
 
     pub receiver_may : Allowed p m (move p.receiver 1) w
     receiver_may done theirs = absurd (theirs refl)
@@ -94,7 +94,7 @@ module _ (p : Parties) (start : World) (o : Opens p start) where
     pub one_in : T.may_move t ≡ true → (transmitter_of (step (move p.sender 0) w).cells p.sender).end.silo.held ≡ t.end.silo.held + 1
     one_in may =
         let there = sender_fitted p start o q w r.standing in
-        ap (λ (v : MoveCall × List ℕ × List ℕ). (transmitter_of v.1 p.sender).end.silo.held) sender_calls
+        ap (λ (v : Result (Option ℕ) Refusal × List ℕ × List ℕ). (transmitter_of v.1 p.sender).end.silo.held) sender_calls
         ∙ ap (λ (x : Transmitter). x.end.silo.held)
         ((transmitter_move w.cells r.standing.ranged (w.memory p.sender) p.sender there).holds.transmitter p.sender there
         ∙ replaced_here (transmitter_of w.cells) p.sender _
@@ -104,7 +104,7 @@ module _ (p : Parties) (start : World) (o : Opens p start) where
     pub one_out : R.may_move u ≡ true → (receiver_of (step (move p.receiver 1) w).cells p.receiver).end.silo.held ≡ u.end.silo.held - 1
     one_out may =
         let there = receiver_fitted p start o q w r.standing in
-        ap (λ (v : MoveCall × List ℕ × List ℕ). (receiver_of v.1 p.receiver).end.silo.held) receiver_calls
+        ap (λ (v : Result (Option ℕ) Refusal × List ℕ × List ℕ). (receiver_of v.1 p.receiver).end.silo.held) receiver_calls
         ∙ ap (λ (x : Receiver). x.end.silo.held)
         ((receiver_move w.cells r.standing.ranged (w.memory p.receiver) p.receiver there).holds.receiver p.receiver there
         ∙ replaced_here (receiver_of w.cells) p.receiver _
@@ -113,7 +113,7 @@ module _ (p : Parties) (start : World) (o : Opens p start) where
 
     pub sender_left : transmitter_of (step (move p.receiver 1) w).cells p.sender ≡ t
     sender_left =
-        ap (λ (v : MoveCall × List ℕ × List ℕ). transmitter_of v.1 p.sender) receiver_calls
+        ap (λ (v : Result (Option ℕ) Refusal × List ℕ × List ℕ). transmitter_of v.1 p.sender) receiver_calls
         ∙ (receiver_move w.cells r.standing.ranged (w.memory p.receiver) p.receiver (receiver_fitted p start o q w r.standing)).holds.transmitter p.sender (sender_fitted p start o q w r.standing)
 
     -- ---- where both have moved until 4, a slice may come
@@ -123,8 +123,8 @@ module _ (p : Parties) (start : World) (o : Opens p start) where
         record {
           data_undamaged = refl;
           parity_undamaged = refl;
-          sender_moved = ap (λ (v : MoveCall × List ℕ × List ℕ). move_call_number v.0) sender_calls ∙ rw waits;
-          receiver_moved = ap (λ (v : MoveCall × List ℕ × List ℕ). move_call_number v.0) receiver_calls ∙ rw stopped;
+          sender_moved = ap (λ (v : Result (Option ℕ) Refusal × List ℕ × List ℕ). move_call_number v.0) sender_calls ∙ rw waits;
+          receiver_moved = ap (λ (v : Result (Option ℕ) Refusal × List ℕ × List ℕ). move_call_number v.0) receiver_calls ∙ rw stopped;
         }
 
     pub slice_comes : kind_of m.from (slice 0 0) w ≡ pick (eqb (next_address w.cells p.master) m.from) own other

@@ -1,7 +1,7 @@
 -- What the calls of a host show of a fitted unit: the bits of TSR, RSR and TMMR, IE in TCR and RCR, the
 -- interrupt levels, and the serials.
 -- Assumes nothing.
-use Rattle.std.specs.Prelude.{Bool, false, not, true, List, ◌≡◌, refl, ℕ, ◌<◌, leb}
+use Rattle.std.specs.Prelude.{Bool, false, not, true, List, ◌≡◌, refl, ℕ, ◌<◌, leb, Result, Ok, Err}
 use Rattle.std.proofs.Common.{ap, sym, ◌∙◌, arith, leb-true}
 use Rattle.frames.specs.Laws.Leaves.{transmitter_within, receiver_within, stays}
 use Rattle.accesses.specs.Masters.{mastership_of}
@@ -18,9 +18,6 @@ use Rattle.master.specs.Writing.{takes_address}
 use Rattle.pcl.specs.Calls.{read_call}
 use Rattle.pcl.specs.Numbers.{level_number, level_value, read_call_number, read_call_word, serial_number, serial_value}
 use Rattle.pcl.specs.Sides.{at_side, level_call, serial_call}
-use Rattle.pcl.specs.declared.answers.LevelCall.{LevelCall}
-use Rattle.pcl.specs.declared.answers.ReadCall.{ReadCall}
-use Rattle.pcl.specs.declared.answers.SerialCall.{SerialCall}
 use Rattle.receiver.specs.Requests as R
 use Rattle.receiver.specs.Side as RS
 use Rattle.receiver.specs.declared.side.Receiver.{Receiver}
@@ -31,7 +28,7 @@ use Rattle.transmitter.specs.Side as TS
 use Rattle.transmitter.specs.declared.side.Transmitter.{Transmitter}
 use Rattle.transmitter_registers.specs.Shown as TR
 use Rattle.words.specs.Address.{extension_of}
-use Rattle.words.specs.declared.answers.Read.{Read}
+use Rattle.words.specs.declared.answers.Refusal.{Refusal}
 use Rattle.promise.specs.Reports.{Level, Serial, Shows, Status, bit_read}
 use Rattle.promise.proofs.Laws.StatusBits.{StatusBits, channel_bit, enabled_bit, status_bits}
 use Rattle.promise.specs.World.{World}
@@ -42,33 +39,33 @@ module _ (w : World) (ok : in_range w.cells ≡ true) (unit : ℕ) (fitted : uni
   some : leb (count_in w.cells) unit ≡ false
   some = by (leb (count_in w.cells) unit) (λ e. absurd (omega (arith, leb-true (count_in w.cells) unit e))) (λ e. e)
 
-  read_is : (offset : ℕ) → (read_call w.cells unit offset).0 ≡ ReadCall.Register (unit_read w.cells unit offset).0
-  read_is offset = sym (ap (λ (r : ReadCall × List ℕ). r.0) (past _ (ap not ok) (past _ some refl)))
+  read_is : (offset : ℕ) → (read_call w.cells unit offset).0 ≡ (unit_read w.cells unit offset).0
+  read_is offset = sym (ap (λ (r : Result ℕ Refusal × List ℕ). r.0) (past _ (ap not ok) (past _ some refl)))
 
-  shows : (offset place word : ℕ) (set : Bool) → (unit_read w.cells unit offset).0 ≡ Read.Word word → bit_at word place ≡ set
+  shows : (offset place word : ℕ) (set : Bool) → (unit_read w.cells unit offset).0 ≡ Ok word → bit_at word place ≡ set
       → Shows w unit offset place set
   shows offset place word set is so =
-      let e = read_is offset ∙ ap ReadCall.Register is in
-      (ap read_call_number e, ap (λ (r : ReadCall). bit_at (read_call_word r) place) e ∙ so)
+      let e = read_is offset ∙ is in
+      (ap read_call_number e, ap (λ (r : Result ℕ Refusal). bit_at (read_call_word r) place) e ∙ so)
 
-  bit_is : (offset place word : ℕ) → (unit_read w.cells unit offset).0 ≡ Read.Word word → bit_read w unit offset place ≡ bit_at word place
-  bit_is offset place word is = ap (λ (r : ReadCall). bit_at (read_call_word r) place) (read_is offset ∙ ap ReadCall.Register is)
+  bit_is : (offset place word : ℕ) → (unit_read w.cells unit offset).0 ≡ Ok word → bit_read w unit offset place ≡ bit_at word place
+  bit_is offset place word is = ap (λ (r : Result ℕ Refusal). bit_at (read_call_word r) place) (read_is offset ∙ is)
 
-  pub level_is : (side : ℕ) (level : Bool) → at_side side (LevelCall.Level (T.level_of (transmitter_of w.cells unit))) (LevelCall.Level (R.level_of (receiver_of w.cells unit))) LevelCall.NoUnit ≡ LevelCall.Level level
+  pub level_is : (side : ℕ) (level : Bool) → at_side side (Ok (T.level_of (transmitter_of w.cells unit))) (Ok (R.level_of (receiver_of w.cells unit))) (Err Refusal.NoUnit) ≡ Ok level
       → Level w unit side level
   level_is side level is =
-      let e : level_call w.cells unit side ≡ LevelCall.Level level = sym (past _ (ap not ok) (past _ some refl)) ∙ is in
+      let e : level_call w.cells unit side ≡ Ok level = sym (past _ (ap not ok) (past _ some refl)) ∙ is in
       (ap level_number e, ap level_value e)
 
-  pub serial_is : (side number : ℕ) → at_side side (SerialCall.Serial (transmitter_of w.cells unit).end.serial) (SerialCall.Serial (receiver_of w.cells unit).end.serial) SerialCall.NoUnit ≡ SerialCall.Serial number
+  pub serial_is : (side number : ℕ) → at_side side (Ok (transmitter_of w.cells unit).end.serial) (Ok (receiver_of w.cells unit).end.serial) (Err Refusal.NoUnit) ≡ Ok number
       → Serial w unit side number
   serial_is side number is =
-      let e : serial_call w.cells unit side ≡ SerialCall.Serial number = sym (past _ (ap not ok) (past _ some refl)) ∙ is in
+      let e : serial_call w.cells unit side ≡ Ok number = sym (past _ (ap not ok) (past _ some refl)) ∙ is in
       (ap serial_number e, ap serial_value e)
 
   -- ---- TSR and RSR
 
-  shows_status : (offset word : ℕ) {f4 f5 f6 f7 f15 success busy : Bool} → (unit_read w.cells unit offset).0 ≡ Read.Word word
+  shows_status : (offset word : ℕ) {f4 f5 f6 f7 f15 success busy : Bool} → (unit_read w.cells unit offset).0 ≡ Ok word
       → StatusBits word f4 f5 f6 f7 f15 → f7 ≡ success → f6 ≡ busy → f5 ≡ false → f15 ≡ false → Status w unit offset success busy
   shows_status offset word is s seven six five fifteen =
       record {
@@ -113,7 +110,7 @@ module _ (w : World) (ok : in_range w.cells ≡ true) (unit : ℕ) (fitted : uni
       let m = master_of w.cells unit in
       let mastership = mastership_of (holder_in w.cells) unit in
       let word = tmmr_word m mastership t.end.opened t.modes.read_silo in
-      shows 10 11 word opened (either (λ (p : Read × List ℕ). p.0 ≡ Read.Word word) (removes m t.modes.read_silo) (λ e. refl) (λ e. refl))
+      shows 10 11 word opened (either (λ (p : Result ℕ Refusal × List ℕ). p.0 ≡ Ok word) (removes m t.modes.read_silo) (λ e. refl) (λ e. refl))
       (channel_bit (address (oldest m.addresses)) (omega arith) (has_master mastership) m.secondary m.now_master t.end.opened m.auto_address
       (takes_address m t.modes.read_silo) (not (is_empty m.addresses)) ∙ so)
 

@@ -1,14 +1,12 @@
 -- What the hosts see where a message stands: nothing before its success, and the success from it on.
 -- Assumes nothing.
-use Rattle.std.specs.Prelude.{Bool, true, false, ◌&&◌, ◌||◌, ◌≡◌, refl}
+use Rattle.std.specs.Prelude.{Bool, true, false, ◌&&◌, ◌||◌, ◌≡◌, refl, Ok}
 use Rattle.std.proofs.Math.Bool.{and-false}
 use Rattle.std.proofs.Common.{ap}
 use Rattle.std.proofs.Math.Path.{subst⁻¹}
 use Rattle.cells.specs.Fitted.{transmitter_of, receiver_of}
 use Rattle.delivery.specs.Laws.Invariant.{Open}
 use Rattle.delivery.specs.Laws.Slices.{State}
-use Rattle.pcl.specs.declared.answers.LevelCall.{LevelCall}
-use Rattle.pcl.specs.declared.answers.SerialCall.{SerialCall}
 use Rattle.receiver.specs.Requests as R
 use Rattle.receiver.specs.Side as RS
 use Rattle.receiver.specs.declared.side.Receiver.{Receiver}
@@ -72,12 +70,12 @@ module _ (p : Parties) (start : World) (o : Opens p start) (q : State) (w : Worl
         opened_there = receiver_channel w s.ranged p.receiver far opened_there;
         level =
             level_is w s.ranged p.sender there 0 false
-            (ap LevelCall.Level (quiet_sender t d.sending.no_error c.lasting.no_success d.sending.no_reject c.lasting.not_refused));
+            (ap Ok (quiet_sender t d.sending.no_error c.lasting.no_success d.sending.no_reject c.lasting.not_refused));
         level_there =
             level_is w s.ranged p.receiver far 1 false
-            (ap LevelCall.Level (quiet_receiver r d.receiving.no_error c.lasting.no_success_there d.receiving.no_reject d.receiving.requests));
-        serial = serial_is w s.ranged p.sender there 0 (message_in p start).serial (ap SerialCall.Serial c.lasting.serial);
-        serial_there = serial_is w s.ranged p.receiver far 1 (message_in p start).serial (ap SerialCall.Serial c.lasting.serial_there);
+            (ap Ok (quiet_receiver r d.receiving.no_error c.lasting.no_success_there d.receiving.no_reject d.receiving.requests));
+        serial = serial_is w s.ranged p.sender there 0 (message_in p start).serial (ap Ok c.lasting.serial);
+        serial_there = serial_is w s.ranged p.receiver far 1 (message_in p start).serial (ap Ok c.lasting.serial_there);
       }
 
 -- while it is not done, the channel is open
@@ -106,10 +104,10 @@ reported p start o w s =
       closed_there = receiver_channel w s.ranged p.receiver far c.shut_there;
       level =
           subst⁻¹ (Level w p.sender 0) (sender_enabled w s.ranged p.sender there)
-          (level_is w s.ranged p.sender there 0 t.modes.interrupt_enable (ap LevelCall.Level (sender_stands t d.sending.no_error c.success)));
+          (level_is w s.ranged p.sender there 0 t.modes.interrupt_enable (ap Ok (sender_stands t d.sending.no_error c.success)));
       level_there =
           subst⁻¹ (Level w p.receiver 1) (receiver_enabled w s.ranged p.receiver far)
-          (level_is w s.ranged p.receiver far 1 r.modes.interrupt_enable (ap LevelCall.Level (receiver_stands r d.receiving.no_error c.success_there)));
-      serial = serial_is w s.ranged p.sender there 0 (message_in p start).serial (ap SerialCall.Serial c.serial);
-      serial_there = serial_is w s.ranged p.receiver far 1 (message_in p start).serial (ap SerialCall.Serial c.serial_there);
+          (level_is w s.ranged p.receiver far 1 r.modes.interrupt_enable (ap Ok (receiver_stands r d.receiving.no_error c.success_there)));
+      serial = serial_is w s.ranged p.sender there 0 (message_in p start).serial (ap Ok c.serial);
+      serial_there = serial_is w s.ranged p.receiver far 1 (message_in p start).serial (ap Ok c.serial_there);
     }

@@ -1,6 +1,6 @@
 -- A slice call where a message stands: T's own takes it on, another's leaves it, and one answered 7 is none.
 -- Assumes nothing.
-use Rattle.std.specs.Prelude.{Bool, false, not, List, ◌≡◌, refl, ℕ, ◌<◌, eqb, ltb, length}
+use Rattle.std.specs.Prelude.{Bool, false, not, List, ◌≡◌, refl, ℕ, eqb, ltb, length, Result, Err, Option}
 use Rattle.std.proofs.Common.{ap, subst, sym, ◌∙◌, eqb-true}
 use Rattle.std.proofs.Math.Path.{subst⁻¹}
 use Rattle.std.proofs.lemmas.Bool.{eqb-false}
@@ -20,7 +20,6 @@ use Rattle.laws.specs.Pick.{by, here, past, pick}
 use Rattle.outcomes.specs.Unchanged.{leaves_all}
 use Rattle.pcl.specs.Link.{slice_call}
 use Rattle.pcl.specs.Numbers.{slice_number}
-use Rattle.pcl.specs.declared.answers.SliceCall.{SliceCall}
 use Rattle.slices.specs.Slice.{exchanged}
 use Rattle.slices.specs.declared.Pair.{Pair}
 use Rattle.promise.specs.Conditions.{Allowed, OwnSlice}
@@ -33,6 +32,8 @@ use Rattle.promise.proofs.Laws.Opens.{Opens}
 use Rattle.promise.proofs.Laws.OtherSlices.{other_follows}
 use Rattle.promise.proofs.Laws.Standing.{Standing, onward}
 use Rattle.promise.specs.World.{World, slice, step, with_cells}
+use Rattle.words.specs.declared.answers.Refusal.{Refusal}
+use Rattle.bus.specs.declared.slice.Given.{Given}
 
 module _ (p : Parties) (start : World) (o : Opens p start) (q : State) (w : World) (s : Standing p start q w) (mask : ℕ) (parity : Bool) where
   abbrev m : Message
@@ -78,7 +79,7 @@ module _ (p : Parties) (start : World) (o : Opens p start) (q : State) (w : Worl
 -- ---- the call
 
 module _ (p : Parties) (start : World) (o : Opens p start) (q : State) (w : World) (s : Standing p start q w) (mask parity : ℕ) where
-  abbrev By : SliceCall × List ℕ → Type 0
+  abbrev By : Result (Option Given) Refusal × List ℕ → Type 0
   By r = Follows p start q w (slice_kind (message_in p start).from r.0) (with_cells w r.1)
 
   pub slice_follows : Allowed p (message_in p start) (slice mask parity) w
@@ -86,17 +87,17 @@ module _ (p : Parties) (start : World) (o : Opens p start) (q : State) (w : Worl
   slice_follows allowed =
       by (ltb 1 parity)
       (λ many.
-      let refused : (SliceCall.BadMask, w.cells) ≡ slice_call w.cells mask parity =
+      let refused : (Err Refusal.BadMask, w.cells) ≡ slice_call w.cells mask parity =
       past _ (ap not s.ranged) (here _ many refl) in
       subst By refused (undisturbed p start q w s w.cells (nothing_done p start q w s)))
       (λ few.
       let call = slice_call_lem w.cells s.ranged mask parity p.master s.mastered few in
       let kind = slice_kind_lem w.cells s.ranged mask parity p.master s.mastered few (message_in p start).from in
       subst⁻¹ (λ (k : Kind). Follows p start q w k (step (slice mask parity) w)) kind
-      (subst⁻¹ (λ (r : SliceCall × List ℕ). Follows p start q w (pick (eqb (next_address w.cells p.master) (message_in p start).from) own other) (with_cells w r.1)) call
+      (subst⁻¹ (λ (r : Result (Option Given) Refusal × List ℕ). Follows p start q w (pick (eqb (next_address w.cells p.master) (message_in p start).from) own other) (with_cells w r.1)) call
       (by (eqb (next_address w.cells p.master) (message_in p start).from)
       (λ e.
-      let c : OwnSlice p mask parity w = allowed (ap (λ (r : SliceCall × List ℕ). leaves_all (slice_number r.0)) call) (kind ∙ rw e) in
+      let c : OwnSlice p mask parity w = allowed (ap (λ (r : Result (Option Given) Refusal × List ℕ). leaves_all (slice_number r.0)) call) (kind ∙ rw e) in
       rw e
       (own_follows p start o q w s mask (eqb parity 1) (eqb-true _ _ e) c.data_undamaged (ap (λ (d : ℕ). eqb d 1) c.parity_undamaged)
       (moved_until_4 p start o q w s c.sender_moved c.receiver_moved)))

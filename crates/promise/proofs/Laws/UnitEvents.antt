@@ -1,6 +1,6 @@
 -- The calls at a unit that leave a message where it stands: a read anywhere, and a reset or a period elsewhere.
 -- Assumes nothing.
-use Rattle.std.specs.Prelude.{true, false, not, List, ◌≡◌, refl, ℕ, ◌<◌, leb}
+use Rattle.std.specs.Prelude.{true, false, not, List, ◌≡◌, refl, ℕ, ◌<◌, leb, Result, Ok, Err}
 use Rattle.std.proofs.Common.{ap, ap₂, subst, sym, ◌∙◌, arith, leb-false}
 use Rattle.accesses.specs.Reading.{unit_read}
 use Rattle.accesses.specs.Writing.{unit_reset}
@@ -20,14 +20,13 @@ use Rattle.moves.specs.Periods.{unit_period}
 use Rattle.outcomes.specs.Unchanged.{leaves_all}
 use Rattle.pcl.specs.Calls.{at_unit, read_by}
 use Rattle.pcl.specs.Numbers.{done_number}
-use Rattle.pcl.specs.declared.answers.ReadCall.{ReadCall}
-use Rattle.pcl.specs.declared.answers.UnitCall.{UnitCall}
 use Rattle.promise.specs.Conditions.{Allowed, Elsewhere}
 use Rattle.promise.proofs.Laws.Follows.{Follows, Undisturbed, master_fitted, nothing_done, receiver_fitted, sender_fitted, undisturbed}
 use Rattle.promise.specs.Opening.{Parties, message_in}
 use Rattle.promise.proofs.Laws.Opens.{Opens}
 use Rattle.promise.proofs.Laws.Standing.{Standing}
 use Rattle.promise.specs.World.{World, period, read, reset, step, with_cells}
+use Rattle.words.specs.declared.answers.Refusal.{Refusal}
 
 -- a section that gives the addresses of its slices from the same place on has the same ring
 same_ring : (before after : Master) → SameCycle before after → cycle_of after ≡ cycle_of before
@@ -53,7 +52,7 @@ module _ (p : Parties) (start : World) (o : Opens p start) (q : State) (w : Worl
 
   pub read_follows : (offset : ℕ) → Follows p start q w quiet (step (read unit offset) w)
   read_follows offset =
-      at_unit_lem ReadCall.BadState ReadCall.NoUnit (read_by (unit_read w.cells unit offset))
+      at_unit_lem (Err Refusal.BadState) (Err Refusal.NoUnit) (read_by (unit_read w.cells unit offset))
       (λ fitted c.
       let leaves = read_leaves w.cells s.ranged unit fitted offset in
       let d = s.delivering in (
@@ -75,9 +74,9 @@ module _ (p : Parties) (start : World) (o : Opens p start) (q : State) (w : Worl
 
   pub reset_follows : Allowed p (message_in p start) (reset unit) w → Follows p start q w quiet (step (reset unit) w)
   reset_follows allowed =
-      at_unit_lem UnitCall.BadState UnitCall.NoUnit (UnitCall.Done, unit_reset w.cells unit)
+      at_unit_lem (Err Refusal.BadState) (Err Refusal.NoUnit) (Ok tt, unit_reset w.cells unit)
       (λ fitted c.
-      let (a, not_at_master) = allowed (ap (λ (r : UnitCall × List ℕ). leaves_all (done_number r.0)) c) in
+      let (a, not_at_master) = allowed (ap (λ (r : Result (Unit {0}) Refusal × List ℕ). leaves_all (done_number r.0)) c) in
       let leaves = reset_leaves w.cells s.ranged unit fitted in
       let others = reset_others w.cells s.ranged unit fitted in (
         record {
@@ -92,9 +91,9 @@ module _ (p : Parties) (start : World) (o : Opens p start) (q : State) (w : Worl
 
   pub period_follows : Allowed p (message_in p start) (period unit) w → Follows p start q w quiet (step (period unit) w)
   period_follows allowed =
-      at_unit_lem UnitCall.BadState UnitCall.NoUnit (UnitCall.Done, unit_period w.cells unit)
+      at_unit_lem (Err Refusal.BadState) (Err Refusal.NoUnit) (Ok tt, unit_period w.cells unit)
       (λ fitted c.
-      let a : Elsewhere p unit = allowed (ap (λ (r : UnitCall × List ℕ). leaves_all (done_number r.0)) c) in
+      let a : Elsewhere p unit = allowed (ap (λ (r : Result (Unit {0}) Refusal × List ℕ). leaves_all (done_number r.0)) c) in
       let leaves = period_leaves w.cells s.ranged unit fitted in
       let others = period_others w.cells s.ranged unit fitted in (
         record {

@@ -2,7 +2,7 @@
 -- refused.
 -- Assumes nothing.
 use Rattle.std.proofs.Math.Bool.{and-false}
-use Rattle.std.specs.Prelude.{List, ◌≡◌, ℕ, ◌<◌, eqb}
+use Rattle.std.specs.Prelude.{List, ◌≡◌, ℕ, ◌<◌, eqb, Result, Err}
 use Rattle.std.proofs.Common.{inl, inr, ap, sym, ◌∙◌, arith, eqb-true}
 use Rattle.std.proofs.Math.Path.{subst⁻¹}
 use Rattle.std.proofs.lemmas.Bool.{eqb-false}
@@ -21,7 +21,6 @@ use Rattle.outcomes.specs.Unchanged.{leaves_all}
 use Rattle.outcomes.specs.Laws.RefusedUnits.{unit_byte_refused, unit_write_refused}
 use Rattle.pcl.specs.Calls.{written_by}
 use Rattle.pcl.specs.Numbers.{write_call_number}
-use Rattle.pcl.specs.declared.answers.WriteCall.{WriteCall}
 use Rattle.words.specs.Answers.{write_number}
 use Rattle.promise.specs.Conditions.{Allowed, Write}
 use Rattle.promise.proofs.Laws.Follows.{Follows, Undisturbed, nothing_done, master_fitted, receiver_fitted, sender_fitted}
@@ -30,6 +29,8 @@ use Rattle.promise.proofs.Laws.Opens.{Opens}
 use Rattle.promise.proofs.Laws.Standing.{Standing}
 use Rattle.promise.proofs.Laws.UnitEvents.{at_unit_lem}
 use Rattle.promise.specs.World.{World, step, write, write_byte}
+use Rattle.words.specs.declared.answers.Refusal.{Refusal}
+use Rattle.words.specs.declared.answers.Write.{Write as Written}
 
 module _ (p : Parties) (start : World) (o : Opens p start) (q : State) (w : World) (s : Standing p start q w) (unit : ℕ) (fitted : unit < count_in w.cells) where
   abbrev cells : List ℕ
@@ -67,20 +68,20 @@ module _ (p : Parties) (start : World) (o : Opens p start) (q : State) (w : Worl
 module _ (p : Parties) (start : World) (o : Opens p start) (q : State) (w : World) (s : Standing p start q w) (unit offset : ℕ) where
   pub write_follows : (word : ℕ) → Allowed p (message_in p start) (write unit offset word) w → Follows p start q w quiet (step (write unit offset word) w)
   write_follows word allowed =
-      at_unit_lem p start o q w s unit WriteCall.BadState WriteCall.NoUnit (written_by (unit_written w.cells unit offset word))
+      at_unit_lem p start o q w s unit (Err Refusal.BadState) (Err Refusal.NoUnit) (written_by (unit_written w.cells unit offset word))
       (λ fitted c.
       by (leaves_all (write_number (unit_written w.cells unit offset word).0)) (λ refused. subst⁻¹ (Undisturbed p start q w s) (unit_write_refused w.cells unit offset word refused) (nothing_done p start q w s))
       (λ done.
-      let (fits, a) = allowed (ap (λ (r : WriteCall × List ℕ). leaves_all (write_call_number r.0)) c ∙ done) in
+      let (fits, a) = allowed (ap (λ (r : Result Written Refusal × List ℕ). leaves_all (write_call_number r.0)) c ∙ done) in
       written_so p start o q w s unit fitted a (write_leaves w.cells s.ranged unit fitted offset word fits)
       (write_keeps w.cells s.ranged unit fitted offset word fits)))
 
   pub byte_follows : (byte : ℕ) → Allowed p (message_in p start) (write_byte unit offset byte) w → Follows p start q w quiet (step (write_byte unit offset byte) w)
   byte_follows byte allowed =
-      at_unit_lem p start o q w s unit WriteCall.BadState WriteCall.NoUnit (written_by (unit_byte_written w.cells unit offset byte))
+      at_unit_lem p start o q w s unit (Err Refusal.BadState) (Err Refusal.NoUnit) (written_by (unit_byte_written w.cells unit offset byte))
       (λ fitted c.
       by (leaves_all (write_number (unit_byte_written w.cells unit offset byte).0)) (λ refused. subst⁻¹ (Undisturbed p start q w s) (unit_byte_refused w.cells unit offset byte refused) (nothing_done p start q w s))
       (λ done.
-      let (fits, a) = allowed (ap (λ (r : WriteCall × List ℕ). leaves_all (write_call_number r.0)) c ∙ done) in
+      let (fits, a) = allowed (ap (λ (r : Result Written Refusal × List ℕ). leaves_all (write_call_number r.0)) c ∙ done) in
       written_so p start o q w s unit fitted a (byte_leaves w.cells s.ranged unit fitted offset byte fits)
       (byte_keeps w.cells s.ranged unit fitted offset byte fits)))

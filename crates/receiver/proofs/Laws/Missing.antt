@@ -1,7 +1,7 @@
 -- A receiver's move hands up an address exactly where it sets NXL: the one it tried, and not the one after it. And a move whose address lies
 -- outside the memory does set NXL and hands that address up.
 -- Assumes nothing.
-use Rattle.std.specs.Prelude.{true, not, ◌&&◌, ◌||◌, List, ◌≡◌, refl, ℕ, ◌/◌, ◌≤◌}
+use Rattle.std.specs.Prelude.{true, not, ◌&&◌, ◌||◌, List, ◌≡◌, refl, ℕ, ◌/◌, ◌≤◌, Result, Ok, Err, Some}
 use Rattle.std.proofs.lemmas.Bool.{false≢true, not-false}
 use Rattle.std.proofs.Common.{ap, sym, ◌∙◌}
 use Rattle.laws.specs.Pick.{either}
@@ -9,13 +9,10 @@ use Rattle.laws.specs.Laws.Both.{right_of}
 use Rattle.words.specs.Address.{place_of}
 use Rattle.words.specs.Load.{word_moved}
 use Rattle.words.specs.Missing.{HandsUp}
-use Rattle.words.specs.declared.address.Place.{Place}
-use Rattle.words.specs.declared.answers.Move.{Move}
 use Rattle.words.specs.Laws.AddressLaws.{outside_at}
 use Rattle.words.specs.Laws.MissingLaws.{handed_up}
-use Rattle.receiver.specs.Moves.{may_move, moved_to, moved}
+use Rattle.receiver.specs.Moves.{Moved, may_move, moved_to, moved}
 use Rattle.receiver.specs.Side.{has_error, data_out_ready}
-use Rattle.receiver.specs.declared.moves.Moved.{Moved}
 use Rattle.receiver.specs.declared.side.Receiver.{Receiver}
 
 module _ (r : Receiver) (memory : List ℕ) (fitted : ℕ) where
@@ -24,7 +21,7 @@ module _ (r : Receiver) (memory : List ℕ) (fitted : ℕ) where
 
   -- NXL is set, and the load's address comes with it
   abbrev Told : Moved × List ℕ → Type 0
-  Told m = (m.0.answer ≡ Move.Missing r.end.load.address.0) × (m.0.side.faults.nonexistent_location ≡ true)
+  Told m = (m.0.answer ≡ Ok (Some r.end.load.address.0)) × (m.0.side.faults.nonexistent_location ≡ true)
 
   -- "Address outside the memory: NXL"
   pub missing_told : may_move r ≡ true → r.end.load.loaded ≡ true → fitted ≤ r.end.load.address.0 / 2 → Told (moved r memory fitted)
@@ -36,11 +33,11 @@ module _ (r : Receiver) (memory : List ℕ) (fitted : ℕ) where
   no_error_lem : may_move r ≡ true → not (has_error r) ≡ true
   no_error_lem may = right_of (r.modes.memory_requests && data_out_ready r) (not (has_error r)) may
 
-  to : may_move r ≡ true → (p : Place) → place_of r.end.load.address.0 fitted ≡ p → Hands (moved_to r memory p)
-  to may (Place.Inside at) e =
+  to : may_move r ≡ true → (p : Result ℕ ℕ) → place_of r.end.load.address.0 fitted ≡ p → Hands (moved_to r memory p)
+  to may (Ok at) e =
       either (λ (s : Receiver). s.faults.nonexistent_location ≡ r.faults.nonexistent_location)
       (word_moved r.end.load r.modes.inhibit_increment).overflow (λ e. refl) (λ e. refl)
-  to may (Place.Outside tried) e =
+  to may (Err tried) e =
       let f = r.faults in
       handed_up (f.byte_count_overflow || f.time_out || f.parity || f.transmission_error || f.memory_overflow) f.nonexistent_location
       r.end.load.address.0 fitted tried (no_error_lem may) e

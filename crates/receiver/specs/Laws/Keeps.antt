@@ -1,6 +1,6 @@
 -- Every rule of this crate leaves a receiver within the values its numbers may take; and where no period passes, as it was.
 -- Assumes nothing.
-use Rattle.std.specs.Prelude.{Bool, true, false, not, ◌&&◌, List, ◌≡◌, ℕ, ◌^◌, ◌<◌}
+use Rattle.std.specs.Prelude.{Bool, true, false, not, ◌&&◌, List, ◌≡◌, ℕ, ◌^◌, ◌<◌, Result, Ok, Err}
 use Rattle.std.proofs.Common.{true≢false, sym, ap, ◌∙◌, lit<, lit≤}
 use Rattle.std.proofs.lemmas.Bool.{false≢true}
 use Rattle.ends.specs.Laws.EndKept.{within_none, silo_kept, load_kept}
@@ -10,14 +10,12 @@ use Rattle.silos.specs.Laws.Laws.{sized_taken}
 use Rattle.words.specs.Address.{place_of}
 use Rattle.words.specs.Load.{word_moved}
 use Rattle.words.specs.Laws.LoadLaws.{bounded_moved}
-use Rattle.words.specs.declared.address.Place.{Place}
 use Rattle.receiver.specs.Fields.{with_byte_count_overflow, with_time_out, with_memory_overflow}
 use Rattle.receiver.specs.Groups.{with_faults, with_mark}
-use Rattle.receiver.specs.Moves.{may_move, gone, word_passed, moved_to, moved}
+use Rattle.receiver.specs.Moves.{Moved, may_move, gone, word_passed, moved_to, moved}
 use Rattle.receiver.specs.Periods.{period_passed}
 use Rattle.receiver.specs.Requests.{requested, settled, failed}
 use Rattle.receiver.specs.Side.{Within, initial}
-use Rattle.receiver.specs.declared.moves.Moved.{Moved}
 use Rattle.receiver.specs.declared.side.Faults.{Faults}
 use Rattle.receiver.specs.declared.side.Receiver.{Receiver}
 
@@ -61,9 +59,9 @@ module _ (r : Receiver) (h : Within r) where
       let a = word_moved r.end.load r.modes.inhibit_increment in
       either Within a.overflow (λ e. within_failed (gone r a) went (with_memory_overflow (gone r a).faults true)) (λ e. went)
 
-  within_to : (memory : List ℕ) (p : Place) → Within (moved_to r memory p).0.side
-  within_to memory (Place.Inside at) = within_passed
-  within_to memory (Place.Outside address) = within_failed r h _
+  within_to : (memory : List ℕ) (p : Result ℕ ℕ) → Within (moved_to r memory p).0.side
+  within_to memory (Ok at) = within_passed
+  within_to memory (Err address) = within_failed r h _
 
   pub within_moved : (memory : List ℕ) (fitted : ℕ) → Within (moved r memory fitted).0.side
   within_moved memory fitted =

@@ -1,6 +1,6 @@
 -- Reading and writing leave a receiver within the values its numbers may take.
 -- Assumes nothing.
-use Rattle.std.specs.Prelude.{false, not, ◌&&◌, ◌||◌, ℕ, ◌^◌, ◌<◌, eqb}
+use Rattle.std.specs.Prelude.{false, not, ◌&&◌, ◌||◌, ℕ, ◌^◌, ◌<◌, eqb, Result}
 use Rattle.std.proofs.Common.{arith, lit<, lit≤}
 use Rattle.ends.specs.Laws.EndKept.{silo_kept, load_kept, shown_kept}
 use Rattle.laws.specs.Bits.{bits}
@@ -23,14 +23,12 @@ use Rattle.words.specs.Laws.Registers.{half_lt}
 use Rattle.words.specs.Load.{Bounded, extension_loaded}
 use Rattle.words.specs.Laws.LoadLaws.{bounded_count, bounded_low, bounded_extension}
 use Rattle.words.specs.Bits.RCR
-use Rattle.words.specs.declared.answers.Read.{Read}
+use Rattle.words.specs.declared.answers.Refusal.{Refusal}
 use Rattle.words.specs.declared.load.Load.{Load}
-use Rattle.receiver_registers.specs.Reading.{data_read, show_of, read_of}
-use Rattle.receiver_registers.specs.Writing.{initialises, modes_written, control_written, status_set, rises, request_raised, written, byte_written}
-use Rattle.receiver_registers.specs.declared.registers.Reading.{Reading}
-use Rattle.receiver_registers.specs.declared.registers.Written.{Written}
+use Rattle.receiver_registers.specs.Reading.{Reading, data_read, show_of, read_of}
+use Rattle.receiver_registers.specs.Writing.{Written, initialises, modes_written, control_written, status_set, rises, request_raised, written, byte_written}
 
-abbrev Small : Read → Type 0
+abbrev Small : Result ℕ Refusal → Type 0
 Small x = read_word x < 2 ^ 16
 
 abbrev ReadKept : Reading → Type 0

@@ -8,10 +8,8 @@ use Rattle.silos.specs.Silo.{is_empty}
 use Rattle.receiver.specs.declared.side.Receiver.{Receiver}
 use Rattle.words.specs.Answers.{read_word}
 use Rattle.words.specs.Halves.{even_below, with_half}
-use Rattle.receiver_registers.specs.Reading.{show_of, read_of, removes}
-use Rattle.receiver_registers.specs.Writing.{written, byte_written, changes, changes_byte}
-use Rattle.receiver_registers.specs.declared.registers.Reading.{Reading}
-use Rattle.receiver_registers.specs.declared.registers.Written.{Written}
+use Rattle.receiver_registers.specs.Reading.{Reading, show_of, read_of, removes}
+use Rattle.receiver_registers.specs.Writing.{Written, written, byte_written, changes, changes_byte}
 
 pub read_stays : (r : Receiver) (offset : ℕ) → removes r offset ≡ false → (read_of r offset).side ≡ r
 read_stays r offset e =

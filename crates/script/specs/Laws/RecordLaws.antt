@@ -1,7 +1,7 @@
 -- What the bytes at hand tell does not depend on where the input was cut; a record lies in the bytes that told it.
 -- Assumes nothing.
 use Rattle.std.specs.Prelude.{Bool, true, false, List, ◌++◌, ◌≡◌, refl, ℕ, ◌+◌, ◌-◌, ◌*◌, ◌≤◌, ◌<◌, eqb, ltb, length, take, drop}
-use Rattle.std.proofs.Common.{sym, subst, arith, eqb-true, ltb-true, ltb-false, le-ltb, ne_eqb, length-append, length-drop, length-take-le}
+use Rattle.std.proofs.Common.{subst, arith, eqb-true, ltb-true, ltb-false, le-ltb, ne_eqb, length-append, length-drop, length-take-le}
 use Rattle.std.proofs.Math.ListN.{get_or-append}
 use Rattle.std.proofs.lemmas.List.{take-append-le, drop-append-le}
 use Rattle.laws.specs.Pick.{pick, by, either}

@@ -17,10 +17,11 @@ use Rattle.transmitter.specs.Laws.Keeps.{settles}
 use Rattle.transmitter.specs.declared.side.Transmitter.{Transmitter}
 use Rattle.words.specs.declared.lines.Answer.{Answer}
 use Rattle.words.specs.Laws.CodeLaws.{coded_none, coded_shown}
-use Rattle.sending.specs.Chart.{chart_of, close, close_with_error, close_with_success}
+use Rattle.sending.specs.Chart.{chart_of}
 use Rattle.sending.specs.Choice.{wants_on, all_sent, may_open, chosen, code_of}
 use Rattle.sending.specs.Events.{restarted, word_accepted, opening}
 use Rattle.sending.specs.Hearing.{ending_now, after_sending, showing, finished, acknowledged, followed, heard_open, heard_closed, heard_acting, heard}
+use Rattle.sending.specs.declared.chart.Entry.{Entry}
 use Rattle.sending.specs.declared.choice.Choice.{Choice}
 
 -- ---- sending
@@ -113,12 +114,11 @@ finishes t truncated h =
     either Kept truncated (λ e. ((end, h.0.1), (shut t h).1)) (λ e. ((end, h.0.1), (shut t h).1))
 
 module _ (t : Transmitter) (choice : Choice) (answer : Answer) (h : Kept t) (m : MadeBy t choice) where
-  follows : (entry : ℕ) → Kept (followed t choice answer entry)
-  follows entry =
-      either Kept (eqb entry close) (λ e. shut t h)
-      (λ e. either Kept (eqb entry close_with_error) (λ e. shut t h)
-      (λ e. either Kept (eqb entry close_with_success) (λ e. finishes t answer.truncated h)
-      (λ e. either Kept (eqb answer.code 3) (λ e. acknowledges t choice answer.restarts h m) (λ e. h))))
+  follows : (entry : Entry) → Kept (followed t choice answer entry)
+  follows Entry.Close = shut t h
+  follows Entry.CloseWithError = shut t h
+  follows Entry.CloseWithSuccess = finishes t answer.truncated h
+  follows Entry.Stay = either Kept (eqb answer.code 3) (λ e. acknowledges t choice answer.restarts h m) (λ e. h)
 
   hears_open : t.end.opened ≡ true → Kept (heard_open t choice answer)
   hears_open open_now =

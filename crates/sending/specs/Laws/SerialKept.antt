@@ -5,10 +5,11 @@ use Rattle.ends.specs.Ends.{raised}
 use Rattle.laws.specs.Pick.{by, either, pick}
 use Rattle.transmitter.specs.declared.side.Transmitter.{Transmitter}
 use Rattle.words.specs.declared.lines.Answer.{Answer}
-use Rattle.sending.specs.Chart.{chart_of, close, close_with_error, close_with_success}
+use Rattle.sending.specs.Chart.{chart_of}
 use Rattle.sending.specs.Choice.{code_of}
 use Rattle.sending.specs.Events.{restarted, word_accepted}
-use Rattle.sending.specs.Hearing.{acknowledged, heard, heard_open}
+use Rattle.sending.specs.Hearing.{acknowledged, followed, heard, heard_open}
+use Rattle.sending.specs.declared.chart.Entry.{Entry}
 use Rattle.sending.specs.declared.choice.Choice.{Choice}
 
 module _ (t : Transmitter) where
@@ -29,13 +30,15 @@ module _ (t : Transmitter) where
 
   pub hears_open : (choice : Choice) (answer : Answer) (x : Transmitter) → Same x → Same (heard_open x choice answer)
   hears_open choice answer x same =
-      let entry = chart_of (code_of choice) answer.code in
+      let follows : (entry : Entry) → Same (followed x choice answer entry) =
+      elim [
+        | Entry.Stay ↦ either Same (eqb answer.code 3) (λ e. acknowledges choice answer.restarts x same) (λ e. same)
+        | Entry.Close ↦ same
+        | Entry.CloseWithError ↦ same
+        | Entry.CloseWithSuccess ↦ either Same answer.truncated (λ e. same) (λ e. same)
+      ] in
       either Same answer.rejects (λ e. same)
-      (λ e. either Same answer.truncates (λ e. same)
-      (λ e. either Same (eqb entry close) (λ e. same)
-      (λ e. either Same (eqb entry close_with_error) (λ e. same)
-      (λ e. either Same (eqb entry close_with_success) (λ e. either Same answer.truncated (λ e. same) (λ e. same))
-      (λ e. either Same (eqb answer.code 3) (λ e. acknowledges choice answer.restarts x same) (λ e. same))))))
+      (λ e. either Same answer.truncates (λ e. same) (λ e. follows (chart_of (code_of choice) answer.code)))
 
   -- a closed T
   pub hears_closed : (answer : Answer) → (heard t Choice.Opening answer).end.serial ≡ pick (eqb answer.code 3) (raised t.end.serial) t.end.serial

@@ -1,6 +1,6 @@
 -- A run of plain words out of a receiver's silo, taken at once, is so many single moves.
 -- Assumes nothing.
-use Rattle.std.specs.Prelude.{true, not, ◌&&◌, ◌≡◌, refl, List, ℕ, zero, suc, ◌+◌, ◌-◌, ◌/◌, ◌^◌, ◌≤◌, ◌<◌, eqb, leb, length, get_or, set, drop}
+use Rattle.std.specs.Prelude.{true, not, ◌&&◌, ◌≡◌, refl, List, ℕ, zero, suc, ◌+◌, ◌-◌, ◌/◌, ◌^◌, ◌≤◌, ◌<◌, eqb, leb, length, get_or, set, drop, Result, Ok, Option, None}
 use Rattle.std.proofs.Common.{ap, sym, ◌∙◌, add-zero, add-one, arith, le-leb, get_or-drop}
 use Rattle.std.proofs.lemmas.List.Edits.{length-paste}
 use Rattle.std.proofs.Math.Seq.{paste, paste-suc, paste-zero}
@@ -21,14 +21,14 @@ use Rattle.plain_moves.proofs.Laws.MayMove.{may_in}
 use Rattle.plain_moves.proofs.Laws.PlainMoves.{answered_there, in_moved, in_kept}
 use Rattle.plain_moves.specs.Laws.Sides.{side}
 use Rattle.receiver.specs.Moves as R
-use Rattle.words.specs.declared.answers.Move.{Move}
+use Rattle.words.specs.declared.answers.Refusal.{Refusal}
 use Rattle.service.specs.Transfers.{Lent, lent, received_on, receiver_moved_on, words_with, words_in}
 use Rattle.service.specs.Laws.Heads.{with_fewer, front_fewer, fewer_next, fewer_some, fewer_whole}
 use Rattle.service.specs.Laws.Splices.{splice_over}
 use Rattle.service.proofs.Laws.Turns.{goes_on}
 use Rattle.service.specs.Laws.RunsIn.{RunIn}
 
-three : {a a' : Move} {b b' c c' : List ℕ} → a ≡ a' → b ≡ b' → c ≡ c' → ◌≡◌ {A = Move × List ℕ × List ℕ} (a, b, c) (a', b', c')
+three : {a a' : Result (Option ℕ) Refusal} {b b' c c' : List ℕ} → a ≡ a' → b ≡ b' → c ≡ c' → ◌≡◌ {A = Result (Option ℕ) Refusal × List ℕ × List ℕ} (a, b, c) (a', b', c')
 three a b c = rw (a, b, c)
 
 -- ---- over numbers. The words that go are those of a list, which has the silo's from its oldest on
@@ -71,8 +71,8 @@ module _ (ring block own low count control status crc serial : ℕ) (silo source
         sym (may_in (with_fewer ring i) block own (low + i) (count + i) control status crc serial silo)
         ∙ both (both (left_of a b (left_of (a && b) c abc)) (le-leb 64 (with_fewer ring i) (fewer_some ring n i h able.held))) (right_of (a && b) c abc)
 
-    pub side_moves : ◌≡◌ {A = Move × List ℕ × List ℕ} (answered_there (side_in i) (R.moved (dec_receiver (side_in i)) (memory_in i) fitted))
-        (Move.Done, side_in (i + 1), memory_in (i + 1))
+    pub side_moves : ◌≡◌ {A = Result (Option ℕ) Refusal × List ℕ × List ℕ} (answered_there (side_in i) (R.moved (dec_receiver (side_in i)) (memory_in i) fitted))
+        (Ok None, side_in (i + 1), memory_in (i + 1))
     side_moves =
         let p = able.plain in
         let whole = fewer_whole ring n i h able.held able.whole in
@@ -96,10 +96,10 @@ module _ (ring block own low count control status crc serial : ℕ) (silo source
 -- ---- on the lent cells
 
 one_move : (cells memory : List ℕ) (unit : ℕ) (w : List ℕ) (fitted : ℕ) (after stored : List ℕ) → receiver_cells cells unit ≡ w → memory_length cells unit ≡ fitted
-    → R.may_move (dec_receiver w) ≡ true → ◌≡◌ {A = Move × List ℕ × List ℕ} (answered_there w (R.moved (dec_receiver w) memory fitted)) (Move.Done, after, stored)
-    → receiver_moved cells memory unit ≡ (Move.Done, splice cells (receiver_place unit) after, stored)
+    → R.may_move (dec_receiver w) ≡ true → ◌≡◌ {A = Result (Option ℕ) Refusal × List ℕ × List ℕ} (answered_there w (R.moved (dec_receiver w) memory fitted)) (Ok None, after, stored)
+    → receiver_moved cells memory unit ≡ (Ok None, splice cells (receiver_place unit) after, stored)
 one_move cells memory unit w fitted after stored here same may moved =
-    let put : Move × List ℕ × List ℕ → Move × List ℕ × List ℕ = λ p. (p.0, splice cells (receiver_place unit) p.1, p.2) in
+    let put : Result (Option ℕ) Refusal × List ℕ × List ℕ → Result (Option ℕ) Refusal × List ℕ × List ℕ = λ p. (p.0, splice cells (receiver_place unit) p.1, p.2) in
     sym
     (past _ (ap (λ (x : List ℕ). not (R.may_move (dec_receiver x))) here ∙ ap not may)
     (sym
@@ -148,7 +148,7 @@ module _ (cells memory : List ℕ) (unit : ℕ) (fitted : Fitted cells unit) whe
     here_in : (i : ℕ) → receiver_cells (cells_in i) unit ≡ side_after i
     here_in i = window_spliced cells at (side_after i) 73 (long i) (omega arith)
 
-    pub moves_on : (i : ℕ) → i < n → receiver_moved (cells_in i) (stored i) unit ≡ (Move.Done, cells_in (i + 1), stored (i + 1))
+    pub moves_on : (i : ℕ) → i < n → receiver_moved (cells_in i) (stored i) unit ≡ (Ok None, cells_in (i + 1), stored (i + 1))
     moves_on i h =
         let same : memory_length (cells_in i) unit ≡ memory_length cells unit =
         memory_length_kept cells (cells_in i) (own_kept cells unit fitted 77 (side_after i) (omega (arith, long i)) (omega arith)) unit in

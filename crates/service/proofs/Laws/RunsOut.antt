@@ -1,6 +1,6 @@
 -- A run of plain words into a transmitter's silo, put there at once, is so many single moves.
 -- Assumes nothing.
-use Rattle.std.specs.Prelude.{true, false, not, ◌&&◌, ◌||◌, ◌≡◌, refl, List, ℕ, zero, suc, ◌+◌, ◌-◌, ◌/◌, ◌^◌, ◌≤◌, ◌<◌, eqb, length, get_or, set, drop}
+use Rattle.std.specs.Prelude.{true, false, not, ◌&&◌, ◌||◌, ◌≡◌, refl, List, ℕ, zero, suc, ◌+◌, ◌-◌, ◌/◌, ◌^◌, ◌≤◌, ◌<◌, eqb, length, get_or, set, drop, Result, Ok, Option, None}
 use Rattle.std.proofs.Common.{ap, sym, ◌∙◌, add-zero, le_of_lt, add-one, arith, lt-ltb, length-drop, get_or-drop}
 use Rattle.std.proofs.lemmas.List.Edits.{length-paste}
 use Rattle.std.proofs.Math.Seq.{paste, paste-suc, paste-zero}
@@ -21,7 +21,7 @@ use Rattle.plain_moves.proofs.Laws.MayMove.{may_out}
 use Rattle.plain_moves.proofs.Laws.PlainMoves.{answered, out_moved}
 use Rattle.plain_moves.specs.Laws.Sides.{side}
 use Rattle.transmitter.specs.Moves as T
-use Rattle.words.specs.declared.answers.Move.{Move}
+use Rattle.words.specs.declared.answers.Refusal.{Refusal}
 use Rattle.service.specs.Transfers.{Lent, lent, sent_on, transmitter_moved_on, words_out}
 use Rattle.service.specs.Laws.Heads.{with_more, behind_more}
 use Rattle.service.specs.Laws.Splices.{splice_over}
@@ -70,7 +70,7 @@ module _ (ring block own low count control status crc serial : ℕ) (silo memory
         sym (may_out (with_more ring i) block own (low + i) (count + i) control status crc serial (paste silo (behind ring) (drop (word_at low control) memory) i))
         ∙ both (both (both (left_of a b (left_of (a && b) c abc)) (lt-ltb (with_more ring i) 4096 (omega arith))) (right_of (a && b) c abc)) (right_of (a && b && c) d abcd)
 
-    pub side_moves : ◌≡◌ {A = Move × List ℕ} (answered (side_out i) (T.moved (dec_transmitter (side_out i)) memory fitted)) (Move.Done, side_out (i + 1))
+    pub side_moves : ◌≡◌ {A = Result (Option ℕ) Refusal × List ℕ} (answered (side_out i) (T.moved (dec_transmitter (side_out i)) memory fitted)) (Ok None, side_out (i + 1))
     side_moves =
         let source = drop (word_at low control) memory in
         let p = able.plain in
@@ -87,15 +87,15 @@ module _ (ring block own low count control status crc serial : ℕ) (silo memory
         (length-paste silo (behind ring) source i (le_of_lt inside) (omega (arith, able.there, able.lends)) ∙ able.cells64) memory fitted (omega (arith, able.there))
         (record { since = p.since; single = p.single; low15 = omega (arith, able.low15); count15 = omega (arith, able.count15); loaded = p.loaded; goes = p.goes; marked = p.marked })
         able.going able.settled may_still
-        ∙ ap (λ (l : List ℕ). (Move.Done, l)) (rw (more, higher, counted, put))
+        ∙ ap (λ (l : List ℕ). (Ok None, l)) (rw (more, higher, counted, put))
 
 -- ---- on the lent cells
 
 one_move : (cells memory : List ℕ) (unit : ℕ) (w : List ℕ) (fitted : ℕ) (after : List ℕ) → transmitter_cells cells unit ≡ w → memory_length cells unit ≡ fitted
-    → T.may_move (dec_transmitter w) ≡ true → ◌≡◌ {A = Move × List ℕ} (answered w (T.moved (dec_transmitter w) memory fitted)) (Move.Done, after)
-    → transmitter_moved cells memory unit ≡ (Move.Done, splice cells (transmitter_place unit) after)
+    → T.may_move (dec_transmitter w) ≡ true → ◌≡◌ {A = Result (Option ℕ) Refusal × List ℕ} (answered w (T.moved (dec_transmitter w) memory fitted)) (Ok None, after)
+    → transmitter_moved cells memory unit ≡ (Ok None, splice cells (transmitter_place unit) after)
 one_move cells memory unit w fitted after here same may moved =
-    let put : Move × List ℕ → Move × List ℕ = λ p. (p.0, splice cells (transmitter_place unit) p.1) in
+    let put : Result (Option ℕ) Refusal × List ℕ → Result (Option ℕ) Refusal × List ℕ = λ p. (p.0, splice cells (transmitter_place unit) p.1) in
     sym
     (past _ (ap (λ (x : List ℕ). not (T.may_move (dec_transmitter x))) here ∙ ap not may)
     (sym
@@ -133,7 +133,7 @@ module _ (cells memory : List ℕ) (unit : ℕ) (fitted : Fitted cells unit) whe
         let p = length-paste (window cells (at + 9) 64) (behind (cell cells at)) source i (omega (arith, able.straight, able.cells64)) (omega (arith, able.there, able.lends)) in
         omega (arith, p, able.cells64)
 
-    pub moves_on : (i : ℕ) → i < n → transmitter_moved (cells_out i) memory unit ≡ (Move.Done, cells_out (i + 1))
+    pub moves_on : (i : ℕ) → i < n → transmitter_moved (cells_out i) memory unit ≡ (Ok None, cells_out (i + 1))
     moves_on i h =
         let here : transmitter_cells (cells_out i) unit ≡ side_after i = window_spliced cells at (side_after i) 73 (long i (omega arith)) (omega arith) in
         let same : memory_length (cells_out i) unit ≡ memory_length cells unit =
@@ -143,7 +143,7 @@ module _ (cells memory : List ℕ) (unit : ℕ) (fitted : Fitted cells unit) whe
         let moved = side_moves (cell cells at) (cell cells (at + 1)) (cell cells (at + 2)) (cell cells (at + 3)) (cell cells (at + 4)) (cell cells (at + 5)) (cell cells (at + 6))
         (cell cells (at + 7)) (cell cells (at + 8)) (window cells (at + 9) 64) memory (memory_length cells unit) n able i h in
         one_move (cells_out i) memory unit (side_after i) (memory_length cells unit) (side_after (i + 1)) here same may moved
-        ∙ ap (λ (l : List ℕ). (Move.Done, l)) (splice_over cells at (side_after i) (side_after (i + 1)) (long (i + 1) (omega arith) ∙ sym (long i (omega arith))) (omega (arith, long i (omega arith))))
+        ∙ ap (λ (l : List ℕ). (Ok None, l)) (splice_over cells at (side_after i) (side_after (i + 1)) (long (i + 1) (omega arith) ∙ sym (long i (omega arith))) (omega (arith, long i (omega arith))))
 
     start : cells_out 0 ≡ cells
     start =

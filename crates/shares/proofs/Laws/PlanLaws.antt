@@ -1,6 +1,6 @@
 -- Which refusals do not fit, by the answer; and the answer, where none of the others fits.
 -- Assumes nothing.
-use Rattle.std.specs.Prelude.{true, false, List, ◌≡◌, refl, ℕ, ◌*◌, ◌≤◌}
+use Rattle.std.specs.Prelude.{true, false, List, ◌≡◌, refl, ℕ, ◌*◌, ◌≤◌, Ok, Err}
 use Rattle.std.proofs.Common.{sym, arith, ltb-false}
 use Rattle.laws.specs.Pick.{by, past, here, either}
 use Rattle.shares.specs.Arranging.{largest}
@@ -14,7 +14,7 @@ use Rattle.shares.specs.Wanted.{shares_in, total}
 use Rattle.shares.proofs.Laws.ArrangeLaws.{arranged_loadable}
 use Rattle.shares.proofs.Laws.TestLaws.{test_sound}
 use Rattle.shares.specs.Laws.Totals.{right_total}
-use Rattle.shares.specs.declared.answers.Plan.{Plan}
+use Rattle.shares.specs.declared.answers.PlanError.{PlanError}
 use Rattle.shares.specs.declared.wanted.Share.{Share}
 
 module _ (wanted room : List ℕ) where
@@ -49,10 +49,10 @@ module _ (wanted room : List ℕ) where
       (λ t. absurd (no_list (rw (enough, inside, once, right, t) at e)))))))
 
   module _ (a : Asked wanted room) where
-    pub fits_none : no_such_list shares ≡ true → plan_of wanted room ≡ (Plan.NoSuchList, room)
+    pub fits_none : no_such_list shares ≡ true → plan_of wanted room ≡ (Err PlanError.NoSuchList, room)
     fits_none t = sym (past _ a.enough (past _ a.inside (past _ a.once (past _ a.right (here _ t refl)))))
 
-    pub fits_listed : no_such_list shares ≡ false → plan_of wanted room ≡ (Plan.Listed (total shares), over (planned shares) room)
+    pub fits_listed : no_such_list shares ≡ false → plan_of wanted room ≡ (Ok (total shares), over (planned shares) room)
     fits_listed t = sym (past _ a.enough (past _ a.inside (past _ a.once (past _ a.right (past _ t refl)))))
 
     -- the list is one that is asked for

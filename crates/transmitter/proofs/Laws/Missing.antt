@@ -1,7 +1,7 @@
 -- A transmitter's move hands up an address exactly where it sets NXL: the one it tried, and not the one after it. And a move whose address lies
 -- outside the memory does set NXL and hands that address up.
 -- Assumes nothing.
-use Rattle.std.specs.Prelude.{true, not, ◌&&◌, ◌||◌, List, ◌≡◌, refl, ℕ, ◌/◌, ◌≤◌}
+use Rattle.std.specs.Prelude.{true, not, ◌&&◌, ◌||◌, List, ◌≡◌, refl, ℕ, ◌/◌, ◌≤◌, Result, Ok, Err, Some}
 use Rattle.std.proofs.lemmas.Bool.{false≢true, not-false}
 use Rattle.std.proofs.Common.{ap, sym, ◌∙◌}
 use Rattle.laws.specs.Pick.{either}
@@ -10,13 +10,10 @@ use Rattle.silos.specs.Silo.{has_room}
 use Rattle.words.specs.Address.{place_of}
 use Rattle.words.specs.Load.{word_moved}
 use Rattle.words.specs.Missing.{HandsUp}
-use Rattle.words.specs.declared.address.Place.{Place}
-use Rattle.words.specs.declared.answers.Move.{Move}
 use Rattle.words.specs.Laws.AddressLaws.{outside_at}
 use Rattle.words.specs.Laws.MissingLaws.{handed_up}
-use Rattle.transmitter.specs.Moves.{may_move, moved_from, moved}
+use Rattle.transmitter.specs.Moves.{Moved, may_move, moved_from, moved}
 use Rattle.transmitter.specs.Side.{has_error}
-use Rattle.transmitter.specs.declared.moves.Moved.{Moved}
 use Rattle.transmitter.specs.declared.side.Transmitter.{Transmitter}
 
 module _ (t : Transmitter) (memory : List ℕ) (fitted : ℕ) where
@@ -25,7 +22,7 @@ module _ (t : Transmitter) (memory : List ℕ) (fitted : ℕ) where
 
   -- NXL is set, and the load's address comes with it
   abbrev Told : Moved → Type 0
-  Told m = (m.answer ≡ Move.Missing t.end.load.address.0) × (m.side.faults.nonexistent_location ≡ true)
+  Told m = (m.answer ≡ Ok (Some t.end.load.address.0)) × (m.side.faults.nonexistent_location ≡ true)
 
   -- "Address outside the memory: NXL"
   pub missing_told : may_move t ≡ true → fitted ≤ t.end.load.address.0 / 2 → Told (moved t memory fitted)
@@ -43,18 +40,18 @@ module _ (t : Transmitter) (memory : List ℕ) (fitted : ℕ) where
       let f = not t.channel.ending in
       right_of (a && b) c (left_of (a && b && c) d (left_of (a && b && c && d) e (left_of (a && b && c && d && e) f may)))
 
-  missed : may_move t ≡ true → (tried : ℕ) → place_of t.end.load.address.0 fitted ≡ Place.Outside tried
-      → HandsUp t.faults.nonexistent_location true t.end.load.address.0 fitted (Move.Missing tried)
+  missed : may_move t ≡ true → (tried : ℕ) → place_of t.end.load.address.0 fitted ≡ Err tried
+      → HandsUp t.faults.nonexistent_location true t.end.load.address.0 fitted (Ok (Some tried))
   missed may tried e =
       let f = t.faults in
       handed_up (f.overrun || f.time_out || f.master_down || f.transmission_error || f.memory_overflow) f.nonexistent_location
       t.end.load.address.0 fitted tried (no_error_lem may) e
 
-  from : may_move t ≡ true → (p : Place) → place_of t.end.load.address.0 fitted ≡ p → Hands (moved_from t memory p)
-  from may (Place.Inside at) e =
+  from : may_move t ≡ true → (p : Result ℕ ℕ) → place_of t.end.load.address.0 fitted ≡ p → Hands (moved_from t memory p)
+  from may (Ok at) e =
       either (λ (s : Transmitter). s.faults.nonexistent_location ≡ t.faults.nonexistent_location)
       (word_moved t.end.load t.modes.inhibit_increment).overflow (λ e. refl) (λ e. refl)
-  from may (Place.Outside tried) e = missed may tried e
+  from may (Err tried) e = missed may tried e
 
   pub hands_up : Hands (moved t memory fitted)
   hands_up = either Hands (not (may_move t)) (λ e. refl) (λ e. from (not-false (may_move t) e) (place_of t.end.load.address.0 fitted) refl)

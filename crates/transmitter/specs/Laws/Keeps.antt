@@ -1,6 +1,6 @@
 -- Every rule of this crate leaves a transmitter within the values its numbers may take; and where no period passes, as it was.
 -- Assumes nothing.
-use Rattle.std.specs.Prelude.{Bool, true, false, not, ◌&&◌, List, ◌≡◌, ℕ, ◌^◌, ◌<◌, get_or}
+use Rattle.std.specs.Prelude.{Bool, true, false, not, ◌&&◌, List, ◌≡◌, ℕ, ◌^◌, ◌<◌, get_or, Result, Ok, Err}
 use Rattle.std.proofs.Common.{true≢false, sym, ap, ◌∙◌, lit<, lit≤}
 use Rattle.std.proofs.lemmas.Bool.{false≢true}
 use Rattle.ends.specs.Ends as E
@@ -11,15 +11,13 @@ use Rattle.silos.specs.Laws.Laws.{sized_put}
 use Rattle.words.specs.Address.{place_of}
 use Rattle.words.specs.Load.{word_moved}
 use Rattle.words.specs.Laws.LoadLaws.{bounded_moved}
-use Rattle.words.specs.declared.address.Place.{Place}
 use Rattle.transmitter.specs.Down.{misses_master, master_missed}
 use Rattle.transmitter.specs.Fields.{with_time_out, with_master_down, with_memory_overflow}
 use Rattle.transmitter.specs.Groups.{with_faults, with_mark}
-use Rattle.transmitter.specs.Moves.{may_move, gone, word_loaded, moved_from, moved}
+use Rattle.transmitter.specs.Moves.{Moved, may_move, gone, word_loaded, moved_from, moved}
 use Rattle.transmitter.specs.Periods.{period_passed}
 use Rattle.transmitter.specs.Requests.{requested, settled, failed}
 use Rattle.transmitter.specs.Side.{Within, initial, is_busy}
-use Rattle.transmitter.specs.declared.moves.Moved.{Moved}
 use Rattle.transmitter.specs.declared.side.Faults.{Faults}
 use Rattle.transmitter.specs.declared.side.Transmitter.{Transmitter}
 
@@ -72,9 +70,9 @@ module _ (t : Transmitter) (h : Within t) where
       let a = word_moved t.end.load t.modes.inhibit_increment in
       either Within a.overflow (λ e. within_failed (gone t word a) (went word) (with_memory_overflow (gone t word a).faults true)) (λ e. went word)
 
-  within_from : (memory : List ℕ) (p : Place) → Within (moved_from t memory p).side
-  within_from memory (Place.Inside at) = within_loaded (get_or memory at 0)
-  within_from memory (Place.Outside address) = within_failed t h _
+  within_from : (memory : List ℕ) (p : Result ℕ ℕ) → Within (moved_from t memory p).side
+  within_from memory (Ok at) = within_loaded (get_or memory at 0)
+  within_from memory (Err address) = within_failed t h _
 
   pub within_moved : (memory : List ℕ) (fitted : ℕ) → Within (moved t memory fitted).side
   within_moved memory fitted =

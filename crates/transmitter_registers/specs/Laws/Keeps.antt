@@ -1,6 +1,6 @@
 -- Reading and writing leave a transmitter within the values its numbers may take.
 -- Assumes nothing.
-use Rattle.std.specs.Prelude.{true, false, not, ◌&&◌, ℕ, ◌^◌, ◌<◌, eqb}
+use Rattle.std.specs.Prelude.{true, false, not, ◌&&◌, ℕ, ◌^◌, ◌<◌, eqb, Result}
 use Rattle.std.proofs.Common.{arith, lit<, lit≤}
 use Rattle.ends.specs.Laws.EndKept.{silo_kept, load_kept, shown_kept}
 use Rattle.laws.specs.Bits.{bits}
@@ -23,14 +23,12 @@ use Rattle.words.specs.Halves.{even_below, with_half}
 use Rattle.words.specs.Laws.Registers.{half_lt}
 use Rattle.words.specs.Laws.LoadLaws.{bounded_count, bounded_low, bounded_extension}
 use Rattle.words.specs.Bits.TCR
-use Rattle.words.specs.declared.answers.Read.{Read}
+use Rattle.words.specs.declared.answers.Refusal.{Refusal}
 use Rattle.words.specs.declared.load.Load.{Load}
-use Rattle.transmitter_registers.specs.Reading.{data_read, show_of, read_of}
-use Rattle.transmitter_registers.specs.Writing.{control_written, status_set, rises, request_raised, data_written, written, byte_written}
-use Rattle.transmitter_registers.specs.declared.registers.Reading.{Reading}
-use Rattle.transmitter_registers.specs.declared.registers.Written.{Written}
+use Rattle.transmitter_registers.specs.Reading.{Reading, data_read, show_of, read_of}
+use Rattle.transmitter_registers.specs.Writing.{Written, control_written, status_set, rises, request_raised, data_written, written, byte_written}
 
-abbrev Small : Read → Type 0
+abbrev Small : Result ℕ Refusal → Type 0
 Small r = read_word r < 2 ^ 16
 
 abbrev ReadKept : Reading → Type 0

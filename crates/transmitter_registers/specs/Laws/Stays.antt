@@ -8,10 +8,8 @@ use Rattle.silos.specs.Silo.{is_empty}
 use Rattle.transmitter.specs.declared.side.Transmitter.{Transmitter}
 use Rattle.words.specs.Answers.{read_word}
 use Rattle.words.specs.Halves.{even_below, with_half}
-use Rattle.transmitter_registers.specs.Reading.{show_of, read_of, removes}
-use Rattle.transmitter_registers.specs.Writing.{written, byte_written, changes, changes_byte}
-use Rattle.transmitter_registers.specs.declared.registers.Reading.{Reading}
-use Rattle.transmitter_registers.specs.declared.registers.Written.{Written}
+use Rattle.transmitter_registers.specs.Reading.{Reading, show_of, read_of, removes}
+use Rattle.transmitter_registers.specs.Writing.{Written, written, byte_written, changes, changes_byte}
 
 pub read_stays : (t : Transmitter) (offset : ℕ) → removes t offset ≡ false → (read_of t offset).side ≡ t
 read_stays t offset e =

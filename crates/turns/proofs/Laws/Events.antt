@@ -1,7 +1,7 @@
 -- Every event that spares the master's section leaves it going round: a slice that is answered 0 has the first address of the list, which
 -- then stands at the end, and any other event leaves the list.
 -- Assumes nothing.
-use Rattle.std.specs.Prelude.{Bool, true, false, not, List, [], ◌∷◌, ◌⊎◌, ◌≡◌, refl, ℕ, ◌+◌, ◌^◌, ◌<◌, eqb, ltb, length, get_or}
+use Rattle.std.specs.Prelude.{Bool, true, false, not, List, [], ◌∷◌, ◌⊎◌, ◌≡◌, refl, ℕ, ◌+◌, ◌^◌, ◌<◌, eqb, ltb, length, get_or, Result, Err, Option}
 use Rattle.std.proofs.Common.{inl, inr, ap, sym, ◌∙◌, arith, eqb-true}
 use Rattle.std.proofs.Math.Path.{subst⁻¹}
 use Rattle.std.proofs.lemmas.Bool.{eqb-false}
@@ -36,13 +36,12 @@ use Rattle.pcl.specs.Calls.{read_call, write_call, byte_call, reset_call, period
 use Rattle.pcl.specs.Link.{slice_call}
 use Rattle.pcl.specs.Numbers.{slice_number, address_of, given_value}
 use Rattle.pcl.specs.Sides.{move_call}
-use Rattle.pcl.specs.declared.answers.MoveCall.{MoveCall}
-use Rattle.pcl.specs.declared.answers.SliceCall.{SliceCall}
 use Rattle.pcl.specs.Laws.Cases.{admitted_cases, move_cases}
 use Rattle.promise.specs.World.{World, Event, fit, write, write_byte, read, slice, move, period, reset, level, serial, host_write, step}
 use Rattle.promise.proofs.Laws.SliceCalls.{ring_turns, ring_first, slice_call_lem}
 use Rattle.turns.specs.Addresses.{answered, address_in, slice_in}
 use Rattle.turns.specs.Round.{GoesRound, Elsewhere, Spares}
+use Rattle.words.specs.declared.answers.Refusal.{Refusal}
 
 module _ (unit : ℕ) (list : List ℕ) (cells : List ℕ) (g : GoesRound unit list cells) where
   there : unit < count_in cells
@@ -122,7 +121,7 @@ module _ (unit : ℕ) (list : List ℕ) (cells : List ℕ) (g : GoesRound unit l
 
   move_goes : (memory : List ℕ) (at side : ℕ) → GoesRound unit list (move_call cells memory at side).1
   move_goes memory at side =
-      move_cases cells (λ (p : MoveCall × List ℕ × List ℕ). GoesRound unit list p.1) memory at side g g
+      move_cases cells (λ (p : Result (Option ℕ) Refusal × List ℕ × List ℕ). GoesRound unit list p.1) memory at side g g
       (λ ok fitted. let l = transmitter_move cells ok memory at fitted in kept _ l.ranged l.holds.holder (l.holds.master unit there))
       (λ ok fitted. let l = receiver_move cells ok memory at fitted in kept _ l.ranged l.holds.holder (l.holds.master unit there))
 
@@ -156,12 +155,12 @@ module _ (unit : ℕ) (list : List ℕ) (cells : List ℕ) (g : GoesRound unit l
       let fits : next_address cells unit < 32 = next_lt (master_of cells unit) (master_within (stays g.ranged) unit there) in
       let given : Given = record { address = next_address cells unit; codes = (served_on cells (next_on cells unit) (next_address cells unit) mask (eqb parity 1)).0 } in
       let shown : address_of (given_value given) ≡ next_address cells unit = omega (arith, fits) in
-      ap (λ (r : SliceCall × List ℕ). answered r.0) call
+      ap (λ (r : Result (Option Given) Refusal × List ℕ). answered r.0) call
       ∙ ap (λ (a : ℕ). a ∷ []) (shown ∙ ring_first cells g.ranged mask (eqb parity 1) unit g.master ∙ ap (λ (l : List ℕ). get_or l 0 0) (cycle_is (master_of cells unit) g.cleared ∙ g.holds))
 
   -- and it is answered 0
   pub slice_done : (mask parity : ℕ) → ltb 1 parity ≡ false → slice_number (slice_call cells mask parity).0 ≡ 0
-  slice_done mask parity few = ap (λ (r : SliceCall × List ℕ). slice_number r.0) (slice_call_lem cells g.ranged mask parity unit g.master few)
+  slice_done mask parity few = ap (λ (r : Result (Option Given) Refusal × List ℕ). slice_number r.0) (slice_call_lem cells g.ranged mask parity unit g.master few)
 
 -- ---- every event
 
@@ -176,7 +175,7 @@ none_or_one n true none one = none refl
 none_or_one n false none one = one refl
 
 module _ (unit : ℕ) (list : List ℕ) (w : World) (g : GoesRound unit list w.cells) where
-  refused : (mask parity : ℕ) → ltb 1 parity ≡ true → slice_call w.cells mask parity ≡ (SliceCall.BadMask, w.cells)
+  refused : (mask parity : ℕ) → ltb 1 parity ≡ true → slice_call w.cells mask parity ≡ (Err Refusal.BadMask, w.cells)
   refused mask parity many = sym (past _ (ap not g.ranged) (here _ many refl))
 
   slice_turns : (mask parity : ℕ) → Turned unit list (slice mask parity) w
@@ -184,10 +183,10 @@ module _ (unit : ℕ) (list : List ℕ) (w : World) (g : GoesRound unit list w.c
       by (ltb 1 parity)
       (λ many.
       let refused = refused mask parity many in
-      inr (ap (λ (r : SliceCall × List ℕ). answered r.0) refused, subst⁻¹ (λ (r : SliceCall × List ℕ). GoesRound unit list r.1) refused g))
+      inr (ap (λ (r : Result (Option Given) Refusal × List ℕ). answered r.0) refused, subst⁻¹ (λ (r : Result (Option Given) Refusal × List ℕ). GoesRound unit list r.1) refused g))
       (λ few.
       let call = slice_call_lem w.cells g.ranged mask parity unit g.master few in
-      inl (slice_answers unit list w.cells g mask parity few, subst⁻¹ (λ (r : SliceCall × List ℕ). GoesRound unit (rotated list) r.1) call (passed_goes unit list w.cells g mask (eqb parity 1))))
+      inl (slice_answers unit list w.cells g mask parity few, subst⁻¹ (λ (r : Result (Option Given) Refusal × List ℕ). GoesRound unit (rotated list) r.1) call (passed_goes unit list w.cells g mask (eqb parity 1))))
 
   pub turns : (e : Event) → Spares unit e → Turned unit list e w
   turns (fit setup) s = absurd s
@@ -205,7 +204,7 @@ module _ (unit : ℕ) (list : List ℕ) (w : World) (g : GoesRound unit list w.c
   slice_each : (mask parity : ℕ) → length (answered (slice_call w.cells mask parity).0) ≡ pick (ltb 1 parity) 0 1
   slice_each mask parity =
       none_or_one (length (answered (slice_call w.cells mask parity).0)) (ltb 1 parity)
-      (λ many. ap (λ (r : SliceCall × List ℕ). length (answered r.0)) (refused mask parity many))
+      (λ many. ap (λ (r : Result (Option Given) Refusal × List ℕ). length (answered r.0)) (refused mask parity many))
       (λ few. ap length (slice_answers unit list w.cells g mask parity few))
 
   -- every slice has an address, and nothing else has

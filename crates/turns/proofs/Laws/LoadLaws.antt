@@ -1,6 +1,6 @@
 -- Addresses loaded one after the other, and the write that clears AUT ADR.
 -- Assumes nothing.
-use Rattle.std.specs.Prelude.{Bool, true, false, not, ◌&&◌, ◌||◌, List, [], ◌∷◌, ◌++◌, map, ◌≡◌, refl, ℕ, ◌+◌, ◌*◌, ◌^◌, ◌≤◌, ◌<◌, eqb, length}
+use Rattle.std.specs.Prelude.{Bool, true, false, not, ◌&&◌, ◌||◌, List, [], ◌∷◌, ◌++◌, map, ◌≡◌, refl, ℕ, ◌+◌, ◌*◌, ◌^◌, ◌≤◌, ◌<◌, eqb, length, Result, Ok, Err}
 use Rattle.std.proofs.Common.{true≢false, append-nil, append_assoc, inl, inr, ⊎_elim, ap, subst, sym, ◌∙◌, arith, lt-ltb, eqb-true, eq-eqb, ne_eqb, lit≤, length-append}
 use Rattle.std.proofs.Math.Bool.{and-false}
 use Rattle.std.proofs.lemmas.List.{map-append}
@@ -25,13 +25,13 @@ use Rattle.master.specs.declared.side.Mastership.{Mastership}
 use Rattle.master.specs.Laws.RingLaws.{length_addresses}
 use Rattle.pcl.specs.Calls.{byte_call, written_by, at_unit}
 use Rattle.pcl.specs.Numbers.{write_call_number}
-use Rattle.pcl.specs.declared.answers.WriteCall.{WriteCall}
 use Rattle.promise.specs.World.{World, Event, write_byte, step, run}
 use Rattle.silos.specs.Silo.{words, is_empty, has_room, put}
 use Rattle.silos.specs.declared.Silo.{Silo}
 use Rattle.silos.specs.Laws.Laws.{words_put, words_empty}
 use Rattle.words.specs.Bits.TMMR as Bits
 use Rattle.words.specs.declared.answers.Write.{Write}
+use Rattle.words.specs.declared.answers.Refusal.{Refusal}
 use Rattle.turns.specs.Loading.{Empty, Empties, Clears, MayHave, loads, Done}
 use Rattle.turns.specs.Round.{GoesRound}
 
@@ -94,7 +94,7 @@ module _ (unit holder : ℕ) (list : List ℕ) (cells : List ℕ) (h : Holding u
         ∙ ap (λ (l : List ℕ). l ++ (a ∷ [])) h.holds
 
     call : byte_call cells unit 10 a ≡ written_by (unit_byte_written cells unit 10 a)
-    call = admitted_done cells unit WriteCall.BadState WriteCall.NoUnit (written_by (unit_byte_written cells unit 10 a)) h.ranged h.fitted
+    call = admitted_done cells unit (Err Refusal.BadState) (Err Refusal.NoUnit) (written_by (unit_byte_written cells unit 10 a)) h.ranged h.fitted
 
     side_taken : (loaded m (transmitter_of cells unit).modes.read_silo a).side ≡ with_addresses m (put 50 m.addresses (address a))
     side_taken = rw takes
@@ -106,15 +106,15 @@ module _ (unit holder : ℕ) (list : List ℕ) (cells : List ℕ) (h : Holding u
     load_done =
         let x = low_byte_written m (mastership_of (holder_in cells) unit) (transmitter_of cells unit).modes.read_silo a in
         let written : master_low_written cells unit a ≡ after_master cells unit x = sym (here _ takes refl) in
-        ap (λ (r : WriteCall × List ℕ). write_call_number r.0) call
-        ∙ ap (λ (r : Write × List ℕ). write_call_number (WriteCall.Register r.0)) written
-        ∙ ap (λ (b : Bool). write_call_number (WriteCall.Register (pick b Write.Dropped Write.Done))) not_dropped
+        ap (λ (r : Result Write Refusal × List ℕ). write_call_number r.0) call
+        ∙ ap (λ (r : Result Write Refusal × List ℕ). write_call_number r.0) written
+        ∙ ap (λ (b : Bool). write_call_number (pick b (Ok Write.Dropped) (Ok Write.Done))) not_dropped
 
     pub load_holds : Holding unit holder (list ++ (a ∷ [])) (byte_call cells unit 10 a).1
     load_holds =
         let l = byte_leaves cells h.ranged unit h.fitted 10 a (omega arith) in
         let side = l.holds.master unit h.fitted ∙ replaced_here (master_of cells) unit _ ∙ side_taken in
-        subst⁻¹ (λ (r : WriteCall × List ℕ). Holding unit holder (list ++ (a ∷ [])) r.1) call
+        subst⁻¹ (λ (r : Result Write Refusal × List ℕ). Holding unit holder (list ++ (a ∷ [])) r.1) call
         (record {
           ranged = l.ranged;
           fitted = subst⁻¹ (λ (n : ℕ). unit < n) l.kept.count h.fitted;
@@ -143,12 +143,12 @@ module _ (unit holder : ℕ) (list : List ℕ) (cells : List ℕ) (h : Holding u
     left_clear = ap (λ (b : Bool). bit_at word Bits.AUT_ADR || b) not_refused ∙ ap (λ (b : Bool). b || false) c.auto_address
 
     clear_call : byte_call cells unit 11 high ≡ written_by (unit_byte_written cells unit 11 high)
-    clear_call = admitted_done cells unit WriteCall.BadState WriteCall.NoUnit (written_by (unit_byte_written cells unit 11 high)) h.ranged h.fitted
+    clear_call = admitted_done cells unit (Err Refusal.BadState) (Err Refusal.NoUnit) (written_by (unit_byte_written cells unit 11 high)) h.ranged h.fitted
 
     pub clear_done : write_call_number (byte_call cells unit 11 high).0 ≡ 0
     clear_done =
-        ap (λ (r : WriteCall × List ℕ). write_call_number r.0) clear_call
-        ∙ ap (λ (b : Bool). write_call_number (WriteCall.Register (pick b Write.NotStarted Write.Done))) not_refused
+        ap (λ (r : Result Write Refusal × List ℕ). write_call_number r.0) clear_call
+        ∙ ap (λ (b : Bool). write_call_number (pick b (Ok Write.NotStarted) (Ok Write.Done))) not_refused
 
     cleared_leaves : Leaves (At unit) cells (unit_byte_written cells unit 11 high).1 (byte_on (sides_of cells) unit 11 high)
     cleared_leaves = byte_leaves cells h.ranged unit h.fitted 11 high c.byte
@@ -158,13 +158,13 @@ module _ (unit holder : ℕ) (list : List ℕ) (cells : List ℕ) (h : Holding u
 
     pub clear_auto : (master_of (byte_call cells unit 11 high).1 unit).auto_address ≡ false
     clear_auto =
-        ap (λ (r : WriteCall × List ℕ). (master_of r.1 unit).auto_address) clear_call
+        ap (λ (r : Result Write Refusal × List ℕ). (master_of r.1 unit).auto_address) clear_call
         ∙ ap (λ (x : Master). x.auto_address) cleared_side
         ∙ left_clear
 
     pub clear_holds : addresses_in (master_of (byte_call cells unit 11 high).1 unit).addresses ≡ list
     clear_holds =
-        ap (λ (r : WriteCall × List ℕ). addresses_in (master_of r.1 unit).addresses) clear_call
+        ap (λ (r : Result Write Refusal × List ℕ). addresses_in (master_of r.1 unit).addresses) clear_call
         ∙ ap (λ (x : Master). addresses_in x.addresses) cleared_side
         ∙ ap addresses_in found
         ∙ h.holds
@@ -178,8 +178,8 @@ module _ (unit holder : ℕ) (list : List ℕ) (cells : List ℕ) (h : Holding u
         ∙ ⊎_elim (λ (e : holder ≡ 0). rw (eq-eqb holder 0 e))
         (λ (e : holder ≡ unit + 1). rw (ne_eqb holder 0 (λ (q : holder ≡ 0). omega arith), eq-eqb holder (unit + 1) e)) free in
         record {
-          ranged = ap (λ (r : WriteCall × List ℕ). in_range r.1) clear_call ∙ cleared_leaves.ranged;
-          master = ap (λ (r : WriteCall × List ℕ). holder_in r.1) clear_call ∙ cleared_leaves.holds.holder ∙ own;
+          ranged = ap (λ (r : Result Write Refusal × List ℕ). in_range r.1) clear_call ∙ cleared_leaves.ranged;
+          master = ap (λ (r : Result Write Refusal × List ℕ). holder_in r.1) clear_call ∙ cleared_leaves.holds.holder ∙ own;
           cleared = clear_auto;
           holds = clear_holds;
         }
@@ -205,7 +205,7 @@ module _ (unit : ℕ) (cells : List ℕ) (ok : in_range cells ≡ true) (there :
   section = master_of cells unit
 
   empty_call : byte_call cells unit 11 high ≡ written_by (unit_byte_written cells unit 11 high)
-  empty_call = admitted_done cells unit WriteCall.BadState WriteCall.NoUnit (written_by (unit_byte_written cells unit 11 high)) ok there
+  empty_call = admitted_done cells unit (Err Refusal.BadState) (Err Refusal.NoUnit) (written_by (unit_byte_written cells unit 11 high)) ok there
 
   no_try : refused section (high * 2 ^ 8) ≡ false
   no_try =
@@ -216,14 +216,14 @@ module _ (unit : ℕ) (cells : List ℕ) (ok : in_range cells ≡ true) (there :
 
   pub empty_done : write_call_number (byte_call cells unit 11 high).0 ≡ 0
   empty_done =
-      ap (λ (r : WriteCall × List ℕ). write_call_number r.0) empty_call
-      ∙ ap (λ (b : Bool). write_call_number (WriteCall.Register (pick b Write.NotStarted Write.Done))) no_try
+      ap (λ (r : Result Write Refusal × List ℕ). write_call_number r.0) empty_call
+      ∙ ap (λ (b : Bool). write_call_number (pick b (Ok Write.NotStarted) (Ok Write.Done))) no_try
 
   pub emptied : (transmitter_of cells unit).modes.read_silo ≡ false → Empty unit (byte_call cells unit 11 high).1
   emptied reading =
       let l = byte_leaves cells ok unit there 11 high e.byte in
       let side = l.holds.master unit there ∙ replaced_here (master_of cells) unit _ in
-      subst⁻¹ (λ (r : WriteCall × List ℕ). Empty unit r.1) empty_call
+      subst⁻¹ (λ (r : Result Write Refusal × List ℕ). Empty unit r.1) empty_call
       (record {
         ranged = l.ranged;
         fitted = subst⁻¹ (λ (n : ℕ). unit < n) l.kept.count there;
@@ -236,7 +236,7 @@ module _ (unit : ℕ) (cells : List ℕ) (ok : in_range cells ≡ true) (there :
   pub emptied_may : MayHave unit (holder_in cells) → MayHave unit (holder_in (byte_call cells unit 11 high).1)
   emptied_may may =
       let l = byte_leaves cells ok unit there 11 high e.byte in
-      let same = ap (λ (r : WriteCall × List ℕ). holder_in r.1) empty_call ∙ l.holds.holder in
+      let same = ap (λ (r : Result Write Refusal × List ℕ). holder_in r.1) empty_call ∙ l.holds.holder in
       subst⁻¹ (MayHave unit) same (written_may unit (holder_in cells) (bit_at (high * 2 ^ 8) Bits.MASTER) may)
 
 -- ---- all of them

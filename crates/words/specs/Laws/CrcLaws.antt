@@ -1,6 +1,6 @@
 -- Laws of the CRC for the crates above: it stays a word, words join on, and a message followed by its own CRC leaves 0.
 -- Assumes nothing.
-use Rattle.std.specs.Prelude.{◌≡◌, ℕ, zero, suc, ◌+◌, ◌/◌, ◌%◌, ◌^◌, ◌<◌, List, [], ◌∷◌, ◌++◌, ◌==◌, refl}
+use Rattle.std.specs.Prelude.{◌≡◌, ℕ, zero, suc, ◌/◌, ◌%◌, ◌^◌, ◌<◌, List, [], ◌∷◌, ◌++◌, ◌==◌, refl}
 use Rattle.std.proofs.Common.{◌∙◌, div-one, one-add, arith, eq-eqb, lit<, shr-shr}
 use Rattle.std.proofs.Math.Nat.{div-eq_of_lt}
 use Rattle.std.proofs.lemmas.Nat.{xor_lt}

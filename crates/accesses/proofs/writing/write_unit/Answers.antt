@@ -1,11 +1,8 @@
--- At each return the tests that led there say which case of the rule holds.
-use borrow.Author.Rules.{rules}
-use borrow.Author.Tests.{eq-eqb, le-ltb, lt-ltb, ne_eqb}
-use Rattle.laws.specs.Pick.{past, here}
+-- The cells are lent to the fitted unit, and come back with what it left.
+use Rattle.std.proofs.Common.{rules, List, ℕ}
+use Rattle.accesses.specs.Writing.{unit_written}
+use Rattle.accesses.specs.Laws.PutBack.{at_cells}
 use Rattle.accesses.proofs.writing.write_unit.Goals as goal
 
-pub returns-then-offset-lt-RCR : goal.returns-then-offset-lt-RCR
-returns-then-offset-lt-RCR c = past _ (rw c.asks_init.ensures at c.if-offset-asks_init.false) (past _ (ne_eqb _ _ c.if-offset-eq-TMMR.false) (here _ (lt-ltb _ _ c.if-offset-lt-RCR.true) c.write_transmitter.ensures))
-
 pub returns : goal.returns
-returns c = past _ (rw c.asks_init.ensures at c.if-offset-asks_init.false) (past _ (ne_eqb _ _ c.if-offset-eq-TMMR.false) (past _ (le-ltb _ _ c.if-offset-lt-RCR.false) c.write_receiver.ensures))
+returns c = at_cells (λ (cells : List ℕ) (unit : ℕ). unit_written cells unit c.args.offset c.args.word) (search rules) (search rules) c.new.ensures.number c.write_fitted.ensures.answer

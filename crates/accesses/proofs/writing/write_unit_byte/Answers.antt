@@ -1,11 +1,11 @@
--- At each return the tests that led there say which case of the rule holds.
-use borrow.Author.Rules.{rules}
-use borrow.Author.Tests.{eq-eqb, le-ltb, lt-ltb, ne_eqb}
-use Rattle.laws.specs.Pick.{past, here}
+-- The cells are lent to the fitted unit, and come back with what it left.
+use Rattle.std.proofs.Common.{rules, arith, List, ℕ}
+use Rattle.accesses.specs.Writing.{unit_byte_written}
+use Rattle.accesses.specs.Laws.PutBack.{at_cells}
 use Rattle.accesses.proofs.writing.write_unit_byte.Goals as goal
 
-pub returns-then-offset-lt-RCR : goal.returns-then-offset-lt-RCR
-returns-then-offset-lt-RCR c = past _ (rw c.asks_init.ensures at c.if-offset-asks_init.false) (past _ (ne_eqb _ _ c.if-offset-eq-TMMR.false) (past _ (ne_eqb _ _ c.if-offset-eq-TMMR_HIGH.false) (here _ (lt-ltb _ _ c.if-offset-lt-RCR.true) c.write_transmitter_byte.ensures)))
-
 pub returns : goal.returns
-returns c = past _ (rw c.asks_init.ensures at c.if-offset-asks_init.false) (past _ (ne_eqb _ _ c.if-offset-eq-TMMR.false) (past _ (ne_eqb _ _ c.if-offset-eq-TMMR_HIGH.false) (past _ (le-ltb _ _ c.if-offset-lt-RCR.false) c.write_receiver_byte.ensures)))
+returns c =
+    let same = c.write_fitted_byte.ensures.same.cells in
+    at_cells (λ (cells : List ℕ) (unit : ℕ). unit_byte_written cells unit c.args.offset c.args.byte) (grind (arith, same, c.new.ensures.cells) steps 40000000) (search rules) c.new.ensures.number
+    c.write_fitted_byte.ensures.answer

@@ -1,25 +1,17 @@
--- A unit with SEC is found or not; one that is found is fitted.
+-- A unit with SEC is found or not.
 use borrow.Author.Rules.{rules}
-use borrow.Author.Tests.{lt-ltb, le-ltb}
-use mathlib.Core.Path.{refl, ap, ◌∙◌}
-use Rattle.cells.specs.Laws.SearchLaws.{found_fitted}
-use Rattle.laws.specs.Pick.{past, here}
-use Rattle.bus.specs.Masterless.{taken_over_or}
+use mathlib.Core.Path.{◌∙◌}
+use Rattle.cells.specs.Layout.{count_in}
+use Rattle.cells.specs.Laws.SearchLaws.{at_unit, at_none}
+use Rattle.bus.specs.Masterless.{taken_over_by, missed_up_to}
 use Rattle.bus.proofs.masterless.pass_masterless.Goals as goal
 
-pub take_over-requires : goal.take_over-requires
-take_over-requires c =
-    let e = c.find_secondary-unit.ensures in
-    rw e (found_fitted _ c.requires _ _ (rw e at c.if-unit-lt-UNITS.true))
-
-pub returns-then-unit-lt-UNITS : goal.returns-then-unit-lt-UNITS
-returns-then-unit-lt-UNITS c =
-    c.take_over.ensures
-    ∙ here _ (lt-ltb _ _ c.if-unit-lt-UNITS.true) refl
-    ∙ ap (taken_over_or c.args.cells.now) c.find_secondary-unit.ensures
+pub returns-in-Some : goal.returns-in-Some
+returns-in-Some c =
+    let s = c.args.cells.now in
+    c.take_over.ensures ∙ at_unit (taken_over_by s) (missed_up_to (count_in s) s) _ _ c.in-Some.ensures.unit
 
 pub returns : goal.returns
 returns c =
-    c.miss_masters.ensures
-    ∙ past _ (le-ltb _ _ c.if-unit-lt-UNITS.false) refl
-    ∙ ap (taken_over_or c.args.cells.now) c.find_secondary-unit.ensures
+    let s = c.args.cells.now in
+    c.miss_masters.ensures ∙ at_none (taken_over_by s) (missed_up_to (count_in s) s) _ c.in_default.ensures.unit

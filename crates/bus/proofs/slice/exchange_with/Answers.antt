@@ -2,7 +2,6 @@
 use borrow.Author.Rules.{rules}
 use mathlib.Core.Path.{ap, ◌∙◌}
 use Rattle.cells.specs.Fitted.{receiver_of}
-use Rattle.cells.specs.Laws.FittedLaws.{still_fitted, transmitter_within, receiver_within}
 use Rattle.laws.specs.Pick.{past, here}
 use Rattle.receiver.specs.declared.side.Receiver.{Receiver}
 use Rattle.slices.specs.Slice.{exchanged}
@@ -12,27 +11,27 @@ use Rattle.bus.specs.Slice.{put_pair}
 use Rattle.bus.proofs.slice.exchange_with.Goals as goal
 
 pub returns-then-is_open_with_another : goal.returns-then-is_open_with_another
-returns-then-is_open_with_another c = here _ (rw (c.is_open_with_another.ensures, c.receiver_of-r.ensures) at c.if-is_open_with_another.true) c.send_unheard.ensures
+returns-then-is_open_with_another c = here _ (rw (c.is_open_with_another.ensures, c.side-r.ensures.value) at c.if-is_open_with_another.true) c.send_unheard.ensures
 
 pub exchange-pair-requires : goal.exchange-pair-requires
-exchange-pair-requires c = (rw c.transmitter_of-t.ensures (transmitter_within _ _ c.requires.fitted.0).end.block, rw c.receiver_of-r.ensures (receiver_within _ _ c.requires.fitted.1).end.block)
+exchange-pair-requires c = (c.side-t.ensures.within.end.block, c.side-r.ensures.within.end.block)
 
-pub put_transmitter-requires : goal.put_transmitter-requires
-put_transmitter-requires c =
+pub put-requires-clause-within : goal.put-requires-clause-within
+put-requires-clause-within c =
     let a = c.args in
-    (c.requires.fitted.0, rw (c.exchange-pair.ensures, c.transmitter_of-t.ensures) (within_transmitter _ c.receiver_of-r.result a.from a.mask a.parity (transmitter_within _ _ c.requires.fitted.0)))
+    rw c.exchange-pair.ensures (within_transmitter _ c.side-r.result a.from a.damage.mask a.damage.parity c.side-t.ensures.within)
 
-pub put_receiver-requires : goal.put_receiver-requires
-put_receiver-requires c =
+pub put-requires-2-clause-within : goal.put-requires-2-clause-within
+put-requires-2-clause-within c =
     let a = c.args in
-    (still_fitted c.put_transmitter.auto.cells c.requires.fitted.1, rw (c.exchange-pair.ensures, c.receiver_of-r.ensures) (within_receiver c.transmitter_of-t.result _ a.from a.mask a.parity (receiver_within _ _ c.requires.fitted.1) c.requires.from_bound))
+    rw c.exchange-pair.ensures (within_receiver c.side-t.result _ a.from a.damage.mask a.damage.parity c.side-r.ensures.within c.requires.from_bound)
 
 pub returns : goal.returns
 returns c =
     let a = c.args in
-    past _ (rw (c.is_open_with_another.ensures, c.receiver_of-r.ensures) at c.if-is_open_with_another.false)
-    (rw (c.put_receiver.ensures, c.put_transmitter.ensures)
+    past _ (rw (c.is_open_with_another.ensures, c.side-r.ensures.value) at c.if-is_open_with_another.false)
+    (rw (c.put-2.ensures, c.put.ensures)
     (ap (put_pair a.cells.now a.unit a.other)
     (c.exchange-pair.ensures
-    ∙ ap (λ (r : Receiver). exchanged c.transmitter_of-t.result r a.from a.mask a.parity) c.receiver_of-r.ensures
-    ∙ ap (λ (t : Transmitter). exchanged t (receiver_of a.cells.now a.other) a.from a.mask a.parity) c.transmitter_of-t.ensures)))
+    ∙ ap (λ (r : Receiver). exchanged c.side-t.result r a.from a.damage.mask a.damage.parity) c.side-r.ensures.value
+    ∙ ap (λ (t : Transmitter). exchanged t (receiver_of a.cells.now a.other) a.from a.damage.mask a.damage.parity) c.side-t.ensures.value)))

@@ -1,8 +1,5 @@
 -- The entries are found, and put into the header.
-use borrow.Author.Rules.{rules}
-use mathlib.Core.Path.{ap, ◌∙◌}
 use native.Mathlib.Omega.{arith}
-use Rattle.codec.specs.Window.{splice}
 use Rattle.cells.specs.Laws.RangeLaws.{in_range_says}
 use Rattle.cells.proofs.index.fill_index.Goals as goal
 

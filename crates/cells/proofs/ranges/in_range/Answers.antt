@@ -1,5 +1,4 @@
 -- At each return the tests that led there decide the definition's, in its order.
-use borrow.Author.Rules.{rules}
 use borrow.Author.Tests.{le-leb, lt-leb}
 use Rattle.cells.specs.Ranges.{in_range}
 use Rattle.cells.proofs.ranges.in_range.Goals as goal

@@ -1,13 +1,11 @@
 -- The answer over all the units is the answer over those that are left.
-use borrow.Author.Rules.{rules}
 use borrow.Author.Tests.{eq-eqb, ne_eqb}
-use mathlib.Core.Path.{◌≡◌, sym, ◌∙◌}
-use Prim.Native.Nat.{◌-◌, ◌≤◌, ◌<◌}
-use native.Mathlib.Nat.{sub-zero}
+use mathlib.Core.Path.{◌≡◌, refl, ap, sym, ◌∙◌}
+use Prim.Native.Nat.{◌-◌, ◌<◌}
 use native.Mathlib.Omega.{arith}
-use Rattle.cells.specs.Layout.{count_in}
-use Rattle.cells.specs.Search.{number_in, first_found}
+use Rattle.cells.specs.Search.{number_in, named, first_found}
 use Rattle.cells.specs.Laws.RangeLaws.{in_range_says, fitted}
+use Rattle.cells.specs.Laws.SearchLaws.{named_unit}
 use Rattle.cells.proofs.Turn.{turn}
 use Rattle.cells.proofs.search.find.Goals as goal
 
@@ -27,17 +25,25 @@ loop-u-preserved c =
     let h : l.u < units = omega arith in
     (l.invariant.0, omega arith, sym (turn (number_in a.cells.now a.k) a.wanted units l.u h ∙ rw (← c.number_in.ensures, ne_eqb _ _ c.if-number_in-wanted.false)) ∙ l.invariant.2)
 
-pub returns-then-u-units : goal.returns-then-u-units
+pub returns-then-u-units-clause-unit : goal.returns-then-u-units-clause-unit
 unfolding first_found
-returns-then-u-units c =
+returns-then-u-units-clause-unit c =
     let l = c.loop-u in
     let e : c.count-units.result - l.u ≡ 0 = omega arith in
     rw (← l.invariant.2, e)
 
-pub returns-then-number_in-wanted : goal.returns-then-number_in-wanted
-returns-then-number_in-wanted c =
+pub returns-then-number_in-wanted-clause-unit : goal.returns-then-number_in-wanted-clause-unit
+returns-then-number_in-wanted-clause-unit c =
     let a = c.args in
     let l = c.loop-u in
     let units = c.count-units.result in
     let h : l.u < units = omega arith in
-    rw (← l.invariant.2, turn (number_in a.cells.now a.k) a.wanted units l.u h, ← c.number_in.ensures, eq-eqb _ _ c.if-number_in-wanted.true)
+    let most = (in_range_says a.cells.now c.requires).most in
+    let first : first_found (number_in a.cells.now a.k) a.wanted (units - l.u) l.u ≡ l.u =
+    rw (turn (number_in a.cells.now a.k) a.wanted units l.u h, ← c.number_in.ensures, eq-eqb _ _ c.if-number_in-wanted.true) refl in
+    named_unit l.u (omega (arith, l.invariant.0)) ∙ ap named (sym first ∙ l.invariant.2)
+
+pub returns-then-number_in-wanted-clause-fitted : goal.returns-then-number_in-wanted-clause-fitted
+returns-then-number_in-wanted-clause-fitted c =
+    let l = c.loop-u in
+    fitted c.args.cells.now c.requires l.u (omega (arith, l.invariant.0, l.invariant.1, c.if-u-units.false))

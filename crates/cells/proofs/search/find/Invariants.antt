@@ -1,13 +1,7 @@
-use borrow.Author.Rules.{rules}
-use borrow.Author.Tests.{eq-eqb, ne_eqb}
-use mathlib.Core.Path.{◌≡◌, sym, ◌∙◌}
-use Prim.Native.Nat.{◌-◌, ◌≤◌, ◌<◌}
-use native.Mathlib.Nat.{sub-zero}
-use native.Mathlib.Omega.{arith}
+use mathlib.Core.Path.{◌≡◌}
+use Prim.Native.Nat.{◌-◌, ◌≤◌}
 use Rattle.cells.specs.Layout.{count_in}
 use Rattle.cells.specs.Search.{number_in, first_found}
-use Rattle.cells.specs.Laws.RangeLaws.{in_range_says, fitted}
-use Rattle.cells.proofs.Turn.{turn}
 use Rattle.cells.proofs.search.find.Given as goal
 
 abbrev pub invariant-loop-u : goal.invariant-loop-u

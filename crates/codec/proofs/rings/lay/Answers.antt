@@ -1,23 +1,10 @@
--- After i turns the ring has the first i words.
+-- The words up to the ring's end, and those from its beginning on.
+use Rattle.codec.proofs.Laws.CopyLaws.{laid_in_parts}
 use borrow.Author.Rules.{rules}
-use mathlib.Core.Path.{◌≡◌, refl, sym, ◌∙◌}
-use Prim.Native.Nat.{◌+◌, ◌-◌, ◌≤◌, ◌<◌}
-use native.Mathlib.Omega.{arith}
-use lib.ListN.{length, take, length-set}
-use Rattle.codec.specs.Rings.{around, laid_from}
-use Rattle.codec.proofs.Laws.RingLaws.{around_lt, laid_none, laid_more}
 use Rattle.codec.proofs.rings.lay.Goals as goal
 
-pub loop-i-init : goal.loop-i-init
-loop-i-init c = let a = c.args in (omega arith, refl, refl, sym (laid_none a.ring.now a.start (omega arith)))
-
-pub loop-i-preserved : goal.loop-i-preserved
-loop-i-preserved c =
+pub returns : goal.returns
+returns c =
     let a = c.args in
-    let l = c.loop-i in (
-      omega arith,
-      l.invariant.1,
-      simp length-set l.invariant.2,
-      rw (l.invariant.3, c.go_around.ensures, l.invariant.1)
-          (laid_more a.ring.now a.start (omega arith) a.words.now l.i (omega arith) (omega arith)),
-    )
+    laid_in_parts a.ring.now a.start a.held c.min-first.result (search rules) (search rules) (search rules)
+    a.words.now _ _ _ (search rules) (search rules) (search rules) (search rules)

@@ -1,9 +1,8 @@
 -- The units passed are fitted, and the cells are as many as they were.
-use borrow.Author.Rules.{rules}
 use mathlib.Core.Bool.{true}
 use mathlib.Core.List.{List}
 use mathlib.Core.Path.{◌≡◌, refl, ap, ◌∙◌}
-use Prim.Native.Nat.{ℕ, ◌+◌, ◌*◌, ◌-◌, ◌≤◌, ◌<◌}
+use Prim.Native.Nat.{ℕ, ◌+◌, ◌*◌, ◌≤◌, ◌<◌}
 use native.Mathlib.Numerals.{add-one}
 use native.Mathlib.Omega.{arith}
 use lib.ListN.{length}
@@ -31,45 +30,18 @@ pub loop-unit-init : goal.loop-unit-init
 unfolding units_fitted
 loop-unit-init c = (omega arith, refl, refl, refl)
 
-pub number-transmitter-requires : goal.number-transmitter-requires
-number-transmitter-requires c = let t = turn c.requires.setup_value c.requires.setup_in_bounds c.loop-unit.invariant.1 c.loop-unit-test.true in omega (arith, t.there.number, t.long)
-
-pub overflow_cast-transmitter : goal.overflow_cast-transmitter
-overflow_cast-transmitter c = omega (arith, c.number-transmitter.ensures, (turn c.requires.setup_value c.requires.setup_in_bounds c.loop-unit.invariant.1 c.loop-unit-test.true).good.transmitter.1)
-
-pub number-receiver-requires : goal.number-receiver-requires
-number-receiver-requires c = let t = turn c.requires.setup_value c.requires.setup_in_bounds c.loop-unit.invariant.1 c.loop-unit-test.true in omega (arith, t.there.number, t.long)
-
-pub overflow_cast-receiver : goal.overflow_cast-receiver
-overflow_cast-receiver c = omega (arith, c.number-receiver.ensures, (turn c.requires.setup_value c.requires.setup_in_bounds c.loop-unit.invariant.1 c.loop-unit-test.true).good.receiver.1)
-
-pub number-switch-requires : goal.number-switch-requires
-number-switch-requires c = let t = turn c.requires.setup_value c.requires.setup_in_bounds c.loop-unit.invariant.1 c.loop-unit-test.true in omega (arith, t.there.number, t.long)
-
-pub overflow_cast-switch : goal.overflow_cast-switch
-overflow_cast-switch c = omega (arith, c.number-switch.ensures, (turn c.requires.setup_value c.requires.setup_in_bounds c.loop-unit.invariant.1 c.loop-unit-test.true).good.switch.1)
-
-pub number-memory-requires : goal.number-memory-requires
-number-memory-requires c = let t = turn c.requires.setup_value c.requires.setup_in_bounds c.loop-unit.invariant.1 c.loop-unit-test.true in omega (arith, t.there.number, t.long)
+pub of-requires : goal.of-requires
+of-requires c = let t = turn c.requires.setup_value c.requires.setup_in_bounds c.loop-unit.invariant.1 c.loop-unit-test.true in (t.there.number, t.long)
 
 pub fit_unit-requires : goal.fit_unit-requires
 fit_unit-requires c =
     let t = turn c.requires.setup_value c.requires.setup_in_bounds c.loop-unit.invariant.1 c.loop-unit-test.true in
-    let g = t.good in record {
+    let g = t.good in
+    let n = c.of.ensures in record {
       fitted = still_fitted c.loop-unit.invariant.2 t.there;
-      le_transmitter = omega (
-        arith,
-        c.number-transmitter.ensures,
-        c.number-receiver.ensures,
-        c.number-switch.ensures,
-        c.number-memory.ensures,
-        g.transmitter.0,
-        g.receiver.0,
-        g.switch.0,
-        g.switch.1,
-        g.memory.0,
-        g.memory.1,
-      );
+      addresses = omega (arith, n.transmitter, n.receiver, g.transmitter.0, g.transmitter.1, g.receiver.0, g.receiver.1);
+      switch = omega (arith, n.switch, g.switch.0, g.switch.1);
+      memory = omega (arith, n.memory, g.memory.0, g.memory.1);
     }
 
 pub loop-unit-preserved : goal.loop-unit-preserved
@@ -83,7 +55,7 @@ loop-unit-preserved c =
       omega (arith, done.auto.cells, l.invariant.2),
       rw add-one
           (done.ensures
-          ∙ rw (c.number-transmitter.ensures, c.number-receiver.ensures, c.number-switch.ensures, c.number-memory.ensures)
+          ∙ rw (c.of.ensures.transmitter, c.of.ensures.receiver, c.of.ensures.switch, c.of.ensures.memory)
           (ap (λ (x : List ℕ). unit_of a.setup.now x l.unit) l.invariant.3)),
     )
 

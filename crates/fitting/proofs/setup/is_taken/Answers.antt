@@ -1,16 +1,14 @@
--- Of the units passed, one has the number or none.
-use borrow.Author.Rules.{rules}
-use mathlib.Core.Path.{◌≡◌, refl}
-use Prim.Native.Nat.{◌-◌, ◌≤◌}
-use native.Mathlib.Numerals.{add-one}
-use native.Mathlib.Omega.{arith}
-use Rattle.fitting.specs.SetUp.{taken_by}
+-- One of the units below `count` has the number, or none.
+use Rattle.std.proofs.Common.{rules, tests, refl, arith, ◌∙◌, ℕ, eqb}
+use Rattle.std.proofs.lemmas.Iterator.{YieldsList-from_range}
+use Rattle.std.proofs.lemmas.Iterator.Search.{any_from_yields_List}
+use Rattle.fitting.specs.SetUp.{number_of}
+use Rattle.fitting.proofs.Chains.{taken}
 use Rattle.fitting.proofs.setup.is_taken.Goals as goal
 
-pub loop-unit-init : goal.loop-unit-init
-unfolding taken_by
-loop-unit-init c = (omega arith, refl)
-
-pub loop-unit-preserved : goal.loop-unit-preserved
-unfolding taken_by
-loop-unit-preserved c = (omega arith, rw (add-one, c.loop-unit.invariant.1, c.number.ensures))
+pub returns : goal.returns
+returns c =
+    let a = c.args in
+    any_from_yields_List (λ (u : ℕ). eqb (number_of a.setup.now u a.k) a.wanted) c.any.new.self _ _ c.any.ensures.ran (YieldsList-from_range 0 a.count a.count refl (omega arith))
+    (λ x b q k. search (rules, tests))
+    ∙ taken a.setup.now a.k a.wanted a.count

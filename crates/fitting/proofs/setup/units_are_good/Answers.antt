@@ -1,16 +1,13 @@
--- All the units passed are good, or not: one unit more is one test more.
-use borrow.Author.Rules.{rules}
-use mathlib.Core.Path.{◌≡◌, refl}
-use Prim.Native.Nat.{◌-◌, ◌≤◌}
-use native.Mathlib.Numerals.{add-one}
-use native.Mathlib.Omega.{arith}
-use Rattle.fitting.specs.SetUp.{units_good}
+-- Each of the units below `count` is good, or not all are.
+use Rattle.std.proofs.Common.{rules, tests, refl, arith, ◌∙◌}
+use Rattle.std.proofs.lemmas.Iterator.{YieldsList-from_range}
+use Rattle.std.proofs.lemmas.Iterator.Search.{all_from_yields_List}
+use Rattle.fitting.proofs.Chains.{good_at, good}
 use Rattle.fitting.proofs.setup.units_are_good.Goals as goal
 
-pub loop-unit-init : goal.loop-unit-init
-unfolding units_good
-loop-unit-init c = (omega arith, refl)
-
-pub loop-unit-preserved : goal.loop-unit-preserved
-unfolding units_good
-loop-unit-preserved c = (omega arith, rw (add-one, c.loop-unit.invariant.1, c.unit_is_good.ensures, c.is_again.ensures, c.is_again-in-loop-unit.ensures))
+pub returns : goal.returns
+returns c =
+    let a = c.args in
+    all_from_yields_List (good_at a.setup.now) c.all.new.self _ _ c.all.ensures.ran (YieldsList-from_range 0 a.count a.count refl (omega arith))
+    (λ x b q k. search (rules, tests))
+    ∙ good a.setup.now a.count

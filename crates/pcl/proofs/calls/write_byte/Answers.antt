@@ -1,16 +1,9 @@
--- What the admission leads to: a refusal, or the function on a fitted unit.
-use borrow.Author.Rules.{rules}
-use Rattle.pcl.specs.Laws.Admitted.{calls}
+-- Refused by its admission, or the write at the fitted unit.
+use Rattle.pcl.specs.Laws.Admitted.{refused_call, goes_on}
 use Rattle.pcl.proofs.calls.write_byte.Goals as goal
 
-pub write_unit_byte-requires : goal.write_unit_byte-requires
-write_unit_byte-requires c = search calls
+pub returns-in_err-admit : goal.returns-in_err-admit
+returns-in_err-admit c = refused_call c.args.cells.now c.args.unit _ _ _ c.from_residual.ensures c.in_err-admit.ensures.answer
 
-pub returns-in-BadState : goal.returns-in-BadState
-returns-in-BadState c = search calls
-
-pub returns-in-NoUnit : goal.returns-in-NoUnit
-returns-in-NoUnit c = search calls
-
-pub returns-in-Fitted : goal.returns-in-Fitted
-returns-in-Fitted c = search calls
+pub returns : goal.returns
+returns c = goes_on c.args.cells.now c.args.unit _ _ _ _ _ c.in_ok-admit.ensures.answer c.write_unit_byte.ensures

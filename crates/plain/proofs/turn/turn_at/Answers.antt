@@ -1,7 +1,6 @@
 -- The counter's address or the silo's, by AUT ADR (`counted_in_place`, `round_in_place`).
-use borrow.Author.Rules.{rules}
 use mathlib.Core.Path.{sym, ◌∙◌}
-use Rattle.plain.specs.Laws.TurnLaws.{plain_there, counted_in_place, round_in_place}
+use Rattle.plain.specs.Laws.TurnLaws.{counted_in_place, round_in_place}
 use Rattle.plain.proofs.turn.turn_at.Goals as goal
 
 pub returns-then-bit_at : goal.returns-then-bit_at

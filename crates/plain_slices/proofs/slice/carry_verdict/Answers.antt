@@ -1,5 +1,4 @@
 -- The receiver's cells are as they were.
-use borrow.Author.Rules.{rules}
 use Prim.Native.Nat.{◌≤◌, ◌<◌}
 use Rattle.plain_slices.specs.Laws.Steps.{still_asked}
 use Rattle.plain_slices.proofs.slice.carry_verdict.Goals as goal

@@ -1,10 +1,5 @@
 -- The receiver's cells are as they were.
-use borrow.Author.Rules.{rules}
-use mathlib.Core.List.{List}
-use mathlib.Core.Path.{ap, ◌∙◌}
-use Prim.Native.Nat.{ℕ, ◌+◌, ◌<◌}
-use Rattle.codec.specs.Window.{cell}
-use Rattle.plain_slices.specs.Heads.{word_sent, word_stored, carried_as}
+use Prim.Native.Nat.{◌<◌}
 use Rattle.plain_slices.specs.Laws.Steps.{still_asked}
 use Rattle.plain_slices.proofs.slice.carry_word.Goals as goal
 

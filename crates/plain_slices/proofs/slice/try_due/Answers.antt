@@ -1,9 +1,11 @@
 -- It is a due CRC that is taken, or nothing is done.
-use borrow.Author.Rules.{rules}
-use native.Mathlib.Omega.{arith}
-use lib.Dec.{lit≤}
-use Rattle.plain_slices.specs.Laws.Steps.{in_step_says, nothing_done, done, carried_due}
+use Rattle.plain_slices.specs.Laws.Steps.{in_step_says, carried_due, clear_at}
 use Rattle.plain_slices.proofs.slice.try_due.Goals as goal
 
 pub returns : goal.returns
-returns c = done _ _ _ _ 1 _ (lit≤ tt) (rw c.carry_due.ensures (carried_due _ _ _ _ c.requires.placed (in_step_says c.args.cells.now c.args.t c.args.r c.args.from c.requires.from_value.0 c.requires.from_value.1) c.requires.from_value.2 c.requires.from_value.3 (omega arith) (omega arith)))
+returns c =
+    let a = c.args in
+    let s = in_step_says a.cells.now a.t a.r a.from c.requires.from_value.0 c.requires.from_value.1 in
+    let owed = clear_at _ (rw (c.bit_at.ensures, c.load-receiver.ensures) at c.if-bit_at.false) in
+    let good = clear_at _ (rw (c.bit_at-2.ensures, c.load-receiver.ensures) at c.if-bit_at-2.false) in
+    rw c.carry_due.ensures (carried_due _ _ _ _ c.requires.placed s c.requires.from_value.2 c.requires.from_value.3 owed good)

@@ -1,12 +1,8 @@
-use borrow.Author.Rules.{rules}
-use mathlib.Core.List.{List}
-use mathlib.Core.Path.{◌≡◌, refl, ap, ◌∙◌}
-use Prim.Native.Nat.{ℕ, ◌-◌, ◌*◌, ◌≤◌}
-use native.Mathlib.Omega.{arith}
+use mathlib.Core.Path.{◌≡◌}
+use Prim.Native.Nat.{◌≤◌}
 use lib.ListN.{length}
-use lib.Seq.{sets, length-sets}
-use Rattle.script.specs.SetUps.{unit_at, units_at}
-use Rattle.script.proofs.Runs.{one_unit}
+use lib.Seq.{sets}
+use Rattle.script.specs.SetUps.{units_at}
 use Rattle.script.proofs.setups.put_units.Given as goal
 
 abbrev pub invariant-loop-unit : goal.invariant-loop-unit

@@ -1,22 +1,18 @@
 -- The tests on its cells are the side's own.
-use borrow.Author.Rules.{rules}
-use borrow.Author.Tests.{eq-eqb, ne_eqb}
+use mathlib.Core.Path.{sym, ◌∙◌}
 use native.Mathlib.Omega.{arith}
-use Prim.Native.Nat.{◌+◌}
 use Rattle.cells.specs.Layout.{receiver_place}
-use Rattle.codec.specs.Window.{cell}
-use Rattle.laws.specs.Bits.{bits}
-use Rattle.service.specs.Laws.Levels.{receiver_silent, receiver_level_at}
+use Rattle.service.specs.Laws.Levels.{receiver_silent, receiver_level_at, has_word_at}
 use Rattle.service.proofs.levels.receiver_level.Goals as goal
 
-pub returns-then-control-eq0 : goal.returns-then-control-eq0
-returns-then-control-eq0 c =
+pub returns-then-not-bit_at : goal.returns-then-not-bit_at
+returns-then-not-bit_at c =
     let a = c.args in
-    let at = receiver_place a.unit in
-    receiver_silent a.cells.now at (omega arith) (ne_eqb (bits (cell a.cells.now (at + 5)) 6 1) 1 (omega (arith, c.if-control-eq0.true)))
+    receiver_silent a.cells.now (receiver_place a.unit) (omega arith) (rw c.load-head.ensures at (sym c.bit_at.ensures ∙ c.if-not-bit_at.true))
 
 pub returns : goal.returns
 returns c =
     let a = c.args in
     let at = receiver_place a.unit in
-    rw c.has_word.ensures (receiver_level_at a.cells.now at (omega arith) (eq-eqb (bits (cell a.cells.now (at + 5)) 6 1) 1 (omega (arith, c.if-control-eq0.false))))
+    rw (c.bits_at.ensures, c.bit_at-2.ensures, c.bit_at-3.ensures, c.bit_at-4.ensures, c.load-head.ensures, has_word_at a.cells.now at (omega arith))
+    (receiver_level_at a.cells.now at (omega arith) (rw c.load-head.ensures at (sym c.bit_at.ensures ∙ c.if-not-bit_at.false)))

@@ -1,5 +1,4 @@
 -- The head, and then the words behind those held.
-use borrow.Author.Rules.{rules}
 use mathlib.Core.Path.{◌≡◌, refl}
 use Prim.Native.Nat.{◌+◌, ◌-◌}
 use native.Mathlib.Omega.{arith}
@@ -14,6 +13,6 @@ returns c =
     let a = c.args in
     let ring = cell a.cells.now a.at in
     let e : a.from + a.n - a.from ≡ a.n = omega arith in
-    rw (c.put.ensures, c.put_head.ensures, c.behind_of-free.ensures.0, e)
+    rw (c.put.ensures, c.store.ensures, c.behind_of.ensures.0, c.moved_on.ensures, c.load-head.ensures, e)
     (head_then_words a.cells.now a.at (head_on a.cells.now a.at (with_more ring a.n) a.n) refl c.requires.0 (behind ring) (drop a.from a.memory.now) a.n c.requires.2
     (omega (arith, length-drop a.from a.memory.now, c.requires.5)))

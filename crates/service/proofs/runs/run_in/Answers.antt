@@ -1,6 +1,4 @@
 -- Where each test passed, what is taken is what so many single moves leave.
-use borrow.Author.Rules.{rules}
-use borrow.Author.Tests.{not-false}
 use mathlib.Core.List.{List}
 use mathlib.Core.Path.{◌≡◌, ap, sym, ◌∙◌}
 use mathlib.Core.Bool.{true}
@@ -21,12 +19,12 @@ use Rattle.service.proofs.runs.run_in.Goals as goal
 pub run_length-n-requires : goal.run_length-n-requires
 run_length-n-requires c =
     let p = c.is_plain_in.ensures c.if-not-is_plain_in.false in
-    (c.requires.2, omega (arith, p.head.low15), omega (arith, p.head.count15), c.if-to-fitted.false)
+    rw c.load-head.ensures (c.requires.2, omega (arith, p.head.low15), omega (arith, p.head.count15), c.if-to-fitted.false)
 
 pub take_words-requires : goal.take_words-requires
 take_words-requires c =
-    let run = c.run_length-n.ensures in
-    let held = c.words_by.ensures in
+    let run = rw c.load-head.ensures at c.run_length-n.ensures in
+    let held = rw c.load-head.ensures at c.words_by.ensures in
     (omega arith, omega (arith, run.0, held.0), omega (arith, run.0, held.1), run.2, run.3, omega (arith, run.4, c.memory_length-fitted.ensures, c.requires.1))
 
 pub overflow_cast-result : goal.overflow_cast-result
@@ -38,8 +36,10 @@ overflow_add-result c = omega (arith, c.run_length-n.ensures.1)
 pub returns : goal.returns
 returns c =
     let gave = c.take_words.ensures in
-    let run = c.run_length-n in
-    let held = c.words_by.ensures in
+    let n = c.run_length-n.result in
+    let run = rw c.load-head.ensures at c.run_length-n.ensures in
+    let named = rw c.load-head.ensures at c.place-to.ensures in
+    let held = rw c.load-head.ensures at c.words_by.ensures in
     let known = c.slice_known-1.given in
     let a = c.args in
     let cells = a.cells.now in
@@ -47,7 +47,7 @@ returns c =
     let p = c.is_plain_in.ensures c.if-not-is_plain_in.false in
     let may : R.may_move (receiver_of cells a.unit) ≡ true = sym c.may_move_in.ensures ∙ c.if-not-may_move_in.false in
     let from = at + 9 + front (cell cells at) in
-    let able : Able cells a.memory.now a.unit run.result =
+    let able : Able cells a.memory.now a.unit n =
     record {
       plain = p.head;
       whole = p.few;
@@ -57,13 +57,13 @@ returns c =
       crc16 = omega (arith, known (at + 7));
       serial16 = omega (arith, known (at + 8));
       cells64 = length_window cells (at + 9) 64 (omega arith);
-      held = omega (arith, run.ensures.0, held.0);
-      straight = omega (arith, run.ensures.0, held.1);
-      low15 = run.ensures.2;
-      count15 = run.ensures.3;
-      there = omega (arith, run.ensures.4, c.memory_length-fitted.ensures, c.place-to.ensures);
+      held = omega (arith, run.0, held.0);
+      straight = omega (arith, run.0, held.1);
+      low15 = run.2;
+      count15 = run.3;
+      there = omega (arith, run.4, c.memory_length-fitted.ensures, named);
       lends = c.requires.1;
-      enough = omega (arith, length-drop from cells, run.ensures.0, held.1);
-      words = words_there cells at run.result (omega (arith, run.ensures.0, held.1));
+      enough = omega (arith, length-drop from cells, run.0, held.1);
+      words = words_there cells at n (omega (arith, run.0, held.1));
     } in
-    rw (gave.0, gave.1, c.place-to.ensures) (ran_in cells a.memory.now a.unit c.requires.0 a.before run.result run.ensures.1 able)
+    rw (gave.0, gave.1, named) (ran_in cells a.memory.now a.unit c.requires.0 a.before n run.1 able)

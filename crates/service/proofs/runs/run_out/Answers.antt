@@ -1,6 +1,4 @@
 -- Where each test passed, what is put is what so many single moves leave.
-use borrow.Author.Rules.{rules}
-use borrow.Author.Tests.{not-false}
 use mathlib.Core.List.{List}
 use mathlib.Core.Path.{◌≡◌, ap, sym, ◌∙◌}
 use mathlib.Core.Bool.{true}
@@ -20,17 +18,17 @@ pub room_by-requires : goal.room_by-requires
 room_by-requires c =
     let a = c.args in
     let may : T.may_move (transmitter_of a.cells.now a.unit) ≡ true = sym c.may_move_out.ensures ∙ c.if-not-may_move_out.false in
-    out_room a.cells.now (transmitter_place a.unit) (omega arith) may
+    rw c.load-head.ensures (out_room a.cells.now (transmitter_place a.unit) (omega arith) may)
 
 pub run_length-n-requires : goal.run_length-n-requires
 run_length-n-requires c =
     let p = c.is_plain_out.ensures c.if-not-is_plain_out.false in
-    (c.requires.2, omega (arith, p.head.low15), omega (arith, p.head.count15), c.if-from-fitted.false)
+    rw c.load-head.ensures (c.requires.2, omega (arith, p.head.low15), omega (arith, p.head.count15), c.if-from-fitted.false)
 
 pub put_words-requires : goal.put_words-requires
 put_words-requires c =
-    let run = c.run_length-n.ensures in
-    let room = c.room_by.ensures in
+    let run = rw c.load-head.ensures at c.run_length-n.ensures in
+    let room = rw c.load-head.ensures at c.room_by.ensures in
     (omega arith, omega (arith, run.0, room.0), omega (arith, run.0, room.1), run.2, run.3, omega (arith, run.4, c.memory_length-fitted.ensures, c.requires.1))
 
 pub overflow_cast-result : goal.overflow_cast-result
@@ -41,15 +39,17 @@ overflow_add-result c = omega (arith, c.run_length-n.ensures.1)
 
 pub returns : goal.returns
 returns c =
-    let run = c.run_length-n in
-    let room = c.room_by.ensures in
+    let n = c.run_length-n.result in
+    let run = rw c.load-head.ensures at c.run_length-n.ensures in
+    let named = rw c.load-head.ensures at c.place-from.ensures in
+    let room = rw c.load-head.ensures at c.room_by.ensures in
     let known = c.slice_known-1.given in
     let a = c.args in
     let cells = a.cells.now in
     let at = transmitter_place a.unit in
     let p = c.is_plain_out.ensures c.if-not-is_plain_out.false in
     let may : T.may_move (transmitter_of cells a.unit) ≡ true = sym c.may_move_out.ensures ∙ c.if-not-may_move_out.false in
-    let able : Able cells a.memory.now a.unit run.result =
+    let able : Able cells a.memory.now a.unit n =
     record {
       plain = p.head;
       going = p.going;
@@ -59,11 +59,11 @@ returns c =
       crc16 = omega (arith, known (at + 7));
       serial16 = omega (arith, known (at + 8));
       cells64 = length_window cells (at + 9) 64 (omega arith);
-      room = omega (arith, run.ensures.0, room.0);
-      straight = omega (arith, run.ensures.0, room.1);
-      low15 = run.ensures.2;
-      count15 = run.ensures.3;
-      there = omega (arith, run.ensures.4, c.memory_length-fitted.ensures, c.place-from.ensures);
+      room = omega (arith, run.0, room.0);
+      straight = omega (arith, run.0, room.1);
+      low15 = run.2;
+      count15 = run.3;
+      there = omega (arith, run.4, c.memory_length-fitted.ensures, named);
       lends = c.requires.1;
     } in
-    rw (c.put_words.ensures, c.place-from.ensures) (ran_out cells a.memory.now a.unit c.requires.0 a.before run.result run.ensures.1 able)
+    rw (c.put_words.ensures, named) (ran_out cells a.memory.now a.unit c.requires.0 a.before n run.1 able)

@@ -1,5 +1,4 @@
 -- The words into the memory, and then the head.
-use borrow.Author.Rules.{rules}
 use mathlib.Core.Path.{◌≡◌, refl}
 use Prim.Native.Nat.{◌+◌, ◌-◌}
 use native.Mathlib.Omega.{arith}
@@ -19,6 +18,6 @@ returns c =
     let source = drop from a.cells.now in
     let e : from + a.n - from ≡ a.n = omega arith in
     let few : length (take a.n source) ≡ a.n = length-take-le a.n source (omega (arith, length-drop from a.cells.now, c.requires.0, c.requires.2)) in (
-      rw (c.put_head.ensures, c.without_oldest.ensures) (head_alone a.cells.now a.at (head_on a.cells.now a.at (with_fewer ring a.n) a.n) refl c.requires.0),
-      rw (c.put.ensures, c.front_of.ensures.0, e, few),
+      rw (c.store.ensures, c.without_oldest.ensures, c.moved_on.ensures, c.load-head.ensures) (head_alone a.cells.now a.at (head_on a.cells.now a.at (with_fewer ring a.n) a.n) refl c.requires.0),
+      rw (c.put.ensures, c.front_of.ensures.0, c.load-head.ensures, e, few),
     )

@@ -1,17 +1,15 @@
 -- Move after move: what comes of the words from here on, with the moves that are left, is what comes of all.
-use borrow.Author.Rules.{rules}
-use borrow.Author.Tests.{not-true, not-false}
+use Rattle.std.specs.Prelude.{Result, Option}
 use mathlib.Core.List.{List}
-use mathlib.Core.Path.{◌≡◌, refl, ap, sym, ◌∙◌}
-use Prim.Native.Nat.{ℕ, ◌≤◌, ◌-◌}
+use mathlib.Core.Path.{refl, ap, sym, ◌∙◌}
+use Prim.Native.Nat.{ℕ, ◌-◌}
 use native.Mathlib.Omega.{arith}
-use lib.ListN.{length}
 use Rattle.cells.specs.Fitted.{receiver_of}
 use Rattle.cells.specs.Layout.{memory_length}
 use Rattle.cells.specs.Laws.FittedLaws.{still_fitted}
 use Rattle.laws.specs.Laws.Fields.{bit_lt}
-use Rattle.words.specs.declared.answers.Move.{Move}
-use Rattle.service.specs.Transfers.{Lent, lent, received_on, left_by, receiver_moved_on, words_with, words_in}
+use Rattle.words.specs.declared.answers.Refusal.{Refusal}
+use Rattle.service.specs.Transfers.{Lent, lent, received_on, left_by, receiver_moved_on, words_with}
 use Rattle.service.specs.Laws.Kept.{in_keeps_length}
 use Rattle.service.proofs.Laws.Turns.{goes_on, stops, none_left}
 use Rattle.service.proofs.transfers.go_on_in.Goals as goal
@@ -33,7 +31,7 @@ returns-then-not-is_done c =
     let a = c.args in
     let one = ap received_on c.move_receiver_by_value-answer.ensures in
     ap left_by
-    (stops (receiver_moved_on a.unit) (λ (x : Lent). words_with x.cells a.unit) l.moves l.words c.loop-moves-test.true (lent l.cells l.memory) one
+    (stops (receiver_moved_on a.unit) (λ (x : Lent). words_with x.cells a.unit) l._moves l.words c.loop-moves-test.true (lent l.cells l.memory) one
     c.ended_by.ensures (sym c.is_done.ensures ∙ c.if-not-is_done.true)
     ∙ l.invariant.5)
 
@@ -46,7 +44,7 @@ pub loop-moves-preserved : goal.loop-moves-preserved
 loop-moves-preserved c =
     let l = c.loop-moves in
     let a = c.args in
-    let after = ap (λ (p : Move × List ℕ × List ℕ). p.1) c.move_receiver_by_value-answer.ensures in
+    let after = ap (λ (p : Result (Option ℕ) Refusal × List ℕ × List ℕ). p.1) c.move_receiver_by_value-answer.ensures in
     let one = ap received_on c.move_receiver_by_value-answer.ensures in (
       omega (arith, c.loop-moves-test.true),
       omega (arith, l.invariant.1, c.words_with-with.ensures, bit_lt (receiver_of l.cells a.unit).end.load.loaded),
@@ -56,7 +54,7 @@ loop-moves-preserved c =
           ∙ in_keeps_length l.cells l.memory a.unit (still_fitted l.invariant.2 c.requires.0)
           ∙ l.invariant.4,
       rw c.words_with-with.ensures
-          (goes_on (receiver_moved_on a.unit) (λ (x : Lent). words_with x.cells a.unit) l.moves l.words c.loop-moves-test.true (lent l.cells l.memory) one
+          (goes_on (receiver_moved_on a.unit) (λ (x : Lent). words_with x.cells a.unit) l._moves l.words c.loop-moves-test.true (lent l.cells l.memory) one
           (sym c.is_done.ensures ∙ c.if-not-is_done.false)
           ∙ l.invariant.5),
     )
@@ -66,4 +64,4 @@ returns c =
     let l = c.loop-moves in
     let a = c.args in
     ap left_by
-    (none_left (receiver_moved_on a.unit) (λ (x : Lent). words_with x.cells a.unit) (65 - l.moves) l.words (lent l.cells l.memory) (omega (arith, c.loop-moves-test.false)) ∙ l.invariant.5)
+    (none_left (receiver_moved_on a.unit) (λ (x : Lent). words_with x.cells a.unit) (65 - l._moves) l.words (lent l.cells l.memory) (omega (arith, c.loop-moves-test.false)) ∙ l.invariant.5)

@@ -1,6 +1,5 @@
 -- Nothing to move; or the runs of plain words, and then single moves.
 use Rattle.std.proofs.Common.{not}
-use borrow.Author.Rules.{rules}
 use mathlib.Core.Path.{refl, ap, ◌∙◌}
 use native.Mathlib.Omega.{arith}
 use Rattle.cells.specs.Laws.FittedLaws.{still_fitted}

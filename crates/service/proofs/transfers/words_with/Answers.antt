@@ -1,5 +1,4 @@
 -- The bit of its cell is the side's own.
-use borrow.Author.Rules.{rules}
 use mathlib.Core.Path.{sym}
 use lib.Dec.{lit<}
 use Rattle.cells.specs.Layout.{receiver_place}
@@ -10,4 +9,4 @@ use Rattle.service.proofs.transfers.words_with.Goals as goal
 pub returns : goal.returns
 returns c =
     let a = c.args in
-    sym (rw (cell_window a.cells.now (receiver_place a.unit) 73 5 (lit< tt)) (bit_on _))
+    rw (c.bits_at.ensures, c.load-head.ensures) (sym (rw (cell_window a.cells.now (receiver_place a.unit) 73 5 (lit< tt)) (bit_on _)))

@@ -1,12 +1,8 @@
-use borrow.Author.Rules.{rules}
-use mathlib.Core.Path.{◌≡◌, refl, sym, ap, ◌∙◌}
-use Prim.Native.Nat.{ℕ, ◌+◌, ◌-◌, ◌/◌}
-use native.Mathlib.Omega.{arith}
-use lib.ListN.{length, get_or, take, length-set}
-use Rattle.shares.specs.Arranging.{row_of, woven_from, in_turn}
+use mathlib.Core.Path.{◌≡◌}
+use Prim.Native.Nat.{◌+◌, ◌/◌}
+use lib.ListN.{length, take}
+use Rattle.shares.specs.Arranging.{row_of, in_turn}
 use Rattle.shares.specs.Wanted.{shares_in}
-use Rattle.shares.proofs.Laws.ArrangeLaws.{length_turn, turn_at}
-use Rattle.shares.specs.Laws.Walking.{filled_next, filled}
 use Rattle.shares.proofs.arranging.arrange.Given as goal
 
 abbrev pub invariant-loop-place : goal.invariant-loop-place

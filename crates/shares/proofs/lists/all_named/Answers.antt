@@ -1,38 +1,14 @@
--- Place by place: what is left is what there was, as long as none failed.
-use borrow.Author.Rules.{rules}
-use borrow.Author.Tests.{not-true, not-false}
-use mathlib.Core.Path.{◌≡◌, refl, sym, ◌∙◌}
-use Prim.Native.Nat.{◌-◌}
-use native.Mathlib.Omega.{arith}
-use lib.ListN.{length, drop}
+-- A test of every address, as the chain makes it.
+use Rattle.std.proofs.Common.{sym, ◌∙◌, rules, tests}
+use Rattle.std.proofs.lemmas.Iterator.{YieldsList-from_slice}
+use Rattle.std.proofs.lemmas.Iterator.Search.{all_from_yields_List}
 use Rattle.shares.specs.Refusals.{named}
-use Rattle.shares.specs.Tested.{all_named}
 use Rattle.shares.specs.Wanted.{shares_in}
-use Rattle.shares.specs.Laws.Walking.{fails_here, holds_here, holds_all}
+use Rattle.shares.proofs.Laws.ChainLaws.{all_named_is}
 use Rattle.shares.proofs.lists.all_named.Goals as goal
 
-pub returns-then-not-names : goal.returns-then-not-names
-unfolding all_named
-returns-then-not-names c =
-    let l = c.loop-place in
-    let a = c.args in
-    let shares = shares_in a.wanted.now in
-    let here = sym c.names.ensures ∙ c.if-not-names.true in
-    fails_here (all_named shares) (λ x. named x shares) refl (λ x rest. refl) a.list.now 0 l.place (omega arith) here ∙ l.invariant.1
-
-pub loop-place-preserved : goal.loop-place-preserved
-unfolding all_named
-loop-place-preserved c =
-    let l = c.loop-place in
-    let a = c.args in
-    let shares = shares_in a.wanted.now in
-    let here = sym c.names.ensures ∙ c.if-not-names.false in
-    (l.invariant.0, holds_here (all_named shares) (λ x. named x shares) refl (λ x rest. refl) a.list.now 0 l.place (omega arith) here ∙ l.invariant.1)
-
 pub returns : goal.returns
-unfolding all_named
 returns c =
-    let l = c.loop-place in
-    let a = c.args in
-    let shares = shares_in a.wanted.now in
-    holds_all (all_named shares) (λ x. named x shares) refl (λ x rest. refl) a.list.now 0 l.place (omega arith) ∙ l.invariant.1
+    let shares = shares_in c.args.wanted.now in
+    all_from_yields_List (λ address. named address shares) c.all.new.self _ _ c.all.ensures.ran (YieldsList-from_slice c.args.list.now cc) (λ x b q k. search (rules, tests))
+    ∙ sym (all_named_is shares c.args.list.now)

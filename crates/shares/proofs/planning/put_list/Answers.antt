@@ -1,13 +1,11 @@
 -- The first list that is asked for, or the arrangement.
-use borrow.Author.Rules.{rules}
 use mathlib.Core.Bool.{Bool}
 use mathlib.Core.List.{List}
 use mathlib.Core.Path.{◌≡◌, sym, ap, ◌∙◌}
 use Prim.Native.Nat.{ℕ}
 use native.Mathlib.Omega.{arith}
 use lib.ListN.{length}
-use Rattle.laws.specs.Pick.{past, here}
-use Rattle.shares.specs.Arranging.{row_of, in_turn}
+use Rattle.shares.specs.Arranging.{row_of}
 use Rattle.shares.specs.Wanted.{shares_in, total}
 use Rattle.shares.proofs.Laws.ArrangeLaws.{length_row}
 use Rattle.shares.proofs.Laws.SpreadLaws.{length_spread}
@@ -27,4 +25,4 @@ arrange-requires c =
     let shares = shares_in c.args.wanted.now in
     let row = ap (λ (m : Share). length (row_of m shares)) c.requires.first ∙ length_row shares c.requires.once (omega (arith, c.requires.exact)) in
     let long = ap length (put c.spreads-2.ensures) ∙ length_spread (total shares) 1 shares (total shares) in
-    (long ∙ sym row, omega (arith, long, c.requires.exact))
+    long ∙ sym row

@@ -1,12 +1,11 @@
 -- Place by place, each by those before it.
-use borrow.Author.Rules.{rules}
 use mathlib.Core.List.{List, [], ◌∷◌, ◌++◌}
-use mathlib.Core.Path.{◌≡◌, refl, sym, ap, ◌∙◌}
-use Prim.Native.Nat.{ℕ, ◌+◌, ◌-◌, ◌≤◌, ◌<◌}
+use mathlib.Core.Path.{◌≡◌, refl, ap, ◌∙◌}
+use Prim.Native.Nat.{ℕ, ◌+◌, ◌<◌}
 use native.Mathlib.Numerals.{add-one}
 use native.Mathlib.Omega.{arith}
 use lib.ListN.{length, take, set, length-set}
-use lib.Seq.{length-take-le, take-suc-set, take_all}
+use lib.Seq.{take-suc-set}
 use Rattle.shares.specs.Spreading.{next_address, spread}
 use Rattle.shares.specs.Wanted.{shares_in}
 use Rattle.shares.proofs.spreading.spread_out.Goals as goal
@@ -23,10 +22,10 @@ loop-place-preserved c =
     let shares = shares_in a.wanted.now in
     let total = length a.list.now in
     let front = spread total a.early shares l.place in
-    let x = c.next_address-next.result in
+    let x = c.next_address.result in
     let inside : l.place < length l.list = omega arith in
     let chosen : x ≡ next_address total a.early shares front =
-    c.next_address-next.ensures
+    c.next_address.ensures
     ∙ ap (λ (n : ℕ). next_address n a.early shares (take l.place l.list)) l.invariant.2
     ∙ ap (next_address total a.early shares) l.invariant.4 in
     let now : take (l.place + 1) (set l.list l.place x) ≡ spread total a.early shares (l.place + 1) =

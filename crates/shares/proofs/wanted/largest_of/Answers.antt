@@ -1,30 +1,16 @@
--- The largest of those passed and of those left is the largest of all.
-use borrow.Author.Rules.{rules}
-use mathlib.Core.Path.{◌≡◌, refl, sym, ap, ◌∙◌}
-use Prim.Native.Nat.{◌+◌, ◌-◌}
-use native.Mathlib.Omega.{arith}
-use lib.ListN.{length, drop}
-use Rattle.shares.specs.Arranging.{larger, largest_from, largest}
+-- The larger of each share and those before it, as the chain takes it.
+use Rattle.std.proofs.Common.{◌≡◌, sym, ap, ◌∙◌, rules, fold}
+use Rattle.std.proofs.lemmas.Iterator.Consumers.{fold_from_yields_List}
+use Rattle.shares.specs.Arranging.{larger}
 use Rattle.shares.specs.Wanted.{shares_in, no_share}
-use Rattle.shares.specs.Laws.Walking.{next, no_next}
 use Rattle.shares.specs.declared.wanted.Share.{Share}
+use Rattle.shares.proofs.Laws.ChainLaws.{all_shares, largest_from_is}
 use Rattle.shares.proofs.wanted.largest_of.Goals as goal
 
-pub loop-place-preserved : goal.loop-place-preserved
-unfolding largest_from
-loop-place-preserved c =
-    let l = c.loop-place in
-    let shares = shares_in c.args.wanted.now in
-    let most = c.larger_of-most.ensures ∙ ap (larger l.most) c.share_at.ensures in (
-      l.invariant.0,
-      ap (λ (m : Share). largest_from m (drop (l.place + 1) shares)) most
-          ∙ sym (ap (largest_from l.most) (next shares no_share l.place (omega arith)))
-          ∙ l.invariant.1,
-    )
-
 pub returns : goal.returns
-unfolding largest_from
 returns c =
-    let l = c.loop-place in
     let shares = shares_in c.args.wanted.now in
-    sym (ap (largest_from l.most) (no_next shares no_share l.place (omega arith))) ∙ l.invariant.1
+    let none : c.default.result ≡ no_share = search rules in
+    fold_from_yields_List _ larger c.default.result _ c.fold.ensures.ran (all_shares c.shares_in.result _ c.shares_in.ensures) (λ a x b q k. search rules)
+    ∙ ap (λ (m : Share). fold larger m shares) none
+    ∙ sym (largest_from_is no_share shares)

@@ -1,7 +1,6 @@
 -- The loop: after `counter` turns the register has made that many steps from the word put in. Of the needs only three are more than
 -- arithmetic.
-use Rattle.std.proofs.Common.{◌≡◌, ◌-◌, ◌≤◌, sym, refl, ap, ◌∙◌, add-one, arith, rules}
-use lib.Bits.{bit_xor}
+use Rattle.std.proofs.Common.{◌≡◌, refl, ap, add-one, arith}
 use Rattle.words.specs.Laws.CrcSteps.{steps, step}
 use Rattle.words.proofs.CrcCode.{word_in}
 use Rattle.words.proofs.crc.crc_with_word.Goals as goal

@@ -1,0 +1,10 @@
+-- At each return the tests that led there say which case of the rule holds.
+use borrow.Author.Tests.{le-ltb, lt-ltb, ne_eqb}
+use Rattle.laws.specs.Pick.{past, here}
+use Rattle.accesses.proofs.writing.write_fitted_byte.Goals as goal
+
+pub returns-then-offset-lt-RCR-clause-answer : goal.returns-then-offset-lt-RCR-clause-answer
+returns-then-offset-lt-RCR-clause-answer c = past _ (rw c.asks_init.ensures at c.if-offset-asks_init.false) (past _ (ne_eqb _ _ c.if-offset-eq-TMMR.false) (past _ (ne_eqb _ _ c.if-offset-eq-TMMR_HIGH.false) (here _ (lt-ltb _ _ c.if-offset-lt-RCR.true) c.write_side_byte.ensures.answer)))
+
+pub returns-clause-answer : goal.returns-clause-answer
+returns-clause-answer c = past _ (rw c.asks_init.ensures at c.if-offset-asks_init.false) (past _ (ne_eqb _ _ c.if-offset-eq-TMMR.false) (past _ (ne_eqb _ _ c.if-offset-eq-TMMR_HIGH.false) (past _ (le-ltb _ _ c.if-offset-lt-RCR.false) c.write_side_byte-2.ensures.answer)))
