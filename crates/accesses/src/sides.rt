@@ -16,12 +16,12 @@ pub fn read_side<S: Registers>(unit: &mut Unit<'_>, offset: u32) -> Result<u16, 
     ensures same { Same unit.old unit.new }
 {
     let side = unit.side::<S>();
-    let after = side.read(offset);
     if side.removes(offset) {
+        let after = side.read(offset);
         unit.put(after.side);
         return after.answer;
     }
-    after.answer
+    side.read(offset).answer
 }
 
 // A word written at an offset of the side.

@@ -1,3 +1,4 @@
 pub mod Hears
 pub mod Listening
 pub mod Parts
+pub mod Shared

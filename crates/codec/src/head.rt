@@ -3,8 +3,6 @@ ghost use Rattle.std.specs.Prelude.{◌≡◌, ◌+◌, ◌≤◌, length};
 ghost use Rattle.codec.specs.Head.{head_in, moved_on, cells_of};
 ghost use Rattle.codec.specs.Window.{splice};
 
-use crate::windows::put;
-
 // What the cells mean is said where they are made: `codec/specs/Ends.antt`, "the places of its cells".
 #[derive(Clone, Copy)]
 pub struct Head {
@@ -55,17 +53,14 @@ impl Head {
         requires { at + 9 ≤ length cells.old }
         ensures { cells.new ≡ splice cells.old at (cells_of self) }
     {
-        let words = [
-            self.ring,
-            self.block,
-            self.own,
-            self.low,
-            self.count,
-            self.control,
-            self.status,
-            self.crc,
-            self.serial,
-        ];
-        put(cells, at, &words);
+        cells[at] = self.ring;
+        cells[at + 1] = self.block;
+        cells[at + 2] = self.own;
+        cells[at + 3] = self.low;
+        cells[at + 4] = self.count;
+        cells[at + 5] = self.control;
+        cells[at + 6] = self.status;
+        cells[at + 7] = self.crc;
+        cells[at + 8] = self.serial;
     }
 }

@@ -17,24 +17,27 @@ pub fn go_around(size: usize, place: usize) -> usize
     place - size
 }
 
-// The first `held` words from `start` on, in order: those up to the ring's end, and those from its beginning on.
+// The first `held` words from `start` on, in order.
 pub fn unroll(words: &mut [u16], ring: &[u16], start: usize, held: usize)
     requires { (start < length ring.now) × (held ≤ length ring.now) × (held ≤ length words.old) }
     ensures { words.new ≡ take held (round_from start ring.now) ++ drop held words.old }
 {
-    let first = held.min(ring.len() - start);
-    words[..first].copy_from_slice(&ring[start..start + first]);
-    words[first..held].copy_from_slice(&ring[..held - first]);
+    // Word by word: most silos are short or empty, and a copy of a length that is not known is a call.
+    for (i, word) in words[..held].iter_mut().enumerate() {
+        *word = ring[go_around(ring.len(), start + i)];
+    }
 }
 
-// The first `held` words into the ring from `start` on: up to the ring's end, and from its beginning on.
+// The first `held` words into the ring from `start` on.
 pub fn lay(ring: &mut [u16], words: &[u16], start: usize, held: usize)
     requires { (start < length ring.old) × (held ≤ length ring.old) × (held ≤ length words.now) }
     ensures { ring.new ≡ laid_from start (take held words.now) ring.old }
 {
-    let first = held.min(ring.len() - start);
-    ring[start..start + first].copy_from_slice(&words[..first]);
-    ring[..held - first].copy_from_slice(&words[first..held]);
+    // Word by word, as in `unroll`.
+    let size = ring.len();
+    for (i, word) in words[..held].iter().enumerate() {
+        ring[go_around(size, start + i)] = *word;
+    }
 }
 
 // The start place that a silo's cell names.

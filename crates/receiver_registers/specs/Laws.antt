@@ -1,2 +1,3 @@
 pub mod Keeps
+pub mod Shared
 pub mod Stays

@@ -10,10 +10,10 @@ use Rattle.script.specs.Put.{Put, Written}
 use Rattle.script.specs.declared.text.Writer.{Writer}
 use Rattle.script.proofs.Runs.{sets_append}
 
-nothing : (out : List ℕ) (at most : ℕ) → Put out at [] most at out
+pub nothing : (out : List ℕ) (at most : ℕ) → Put out at [] most at out
 nothing out at most = record { stands = refl; goes = sym (add-zero at); room = omega arith; same = refl }
 
-and_then : {out middle after p q : List ℕ} {at m n end next : ℕ}
+pub and_then : {out middle after p q : List ℕ} {at m n end next : ℕ}
     → Put out at p m end middle → Put middle end q n next after → Put out at (p ++ q) (m + n) next after
 and_then {out} {middle} {after} {p} {q} {at} a b =
     record {

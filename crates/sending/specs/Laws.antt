@@ -1,2 +1,3 @@
 pub mod SerialKept
+pub mod Shared
 pub mod Talking

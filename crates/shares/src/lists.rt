@@ -7,11 +7,14 @@ ghost use Rattle.shares.specs.Wanted.{shares_in};
 use crate::wanted::{names, shares_in};
 
 /// How often an address stands in a list.
-#[tactic(auto, using(crate::proofs::Laws::ChainLaws::count_is))]
 pub fn count_in(list: &[u16], address: u16) -> usize
     ensures { result ≡ count address list.now }
 {
-    list.iter().filter(|there| **there == address).count()
+    let mut found = 0;
+    for &there in list {
+        found += usize::from(there == address);
+    }
+    found
 }
 
 /// The last address of a list, or 0.

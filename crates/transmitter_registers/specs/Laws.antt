@@ -1,3 +1,4 @@
 pub mod Keeps
 pub mod NoInit
+pub mod Shared
 pub mod Stays

@@ -79,6 +79,14 @@ module _ (ring : List ℕ) (s : ℕ) (there : s < length ring) where
         rw (e, drop-set-lt s ring (s + i - length ring) x near, take-set-lt s ring (s + i - length ring) x near)
         (sym (ap (λ (n : ℕ). set (round_from s ring) n x) j ∙ set_past (drop s ring) (take s ring) (s + i - length ring) x)))
 
+-- a turn of the loop that puts the words in order
+pub unrolled : (ring words : List ℕ) (s i : ℕ) → s < length ring → i < length ring → i < length words
+    → set (take i (round_from s ring) ++ drop i words) i (get_or ring (around (length ring) (s + i)) 0) ≡ take (i + 1) (round_from s ring) ++ drop (i + 1) words
+unrolled ring words s i there h room =
+    let k : 0 + i < length words = omega arith in
+    let l : i < length (round_from s ring) = rw (length_round ring s there) h in
+    rw (add-one, ← round_at ring s there i h) (simp zero-add at (paste-suc words 0 (round_from s ring) i 0 k l))
+
 -- the first words less the first
 less_one : (n : ℕ) (xs : List ℕ) → drop 1 (take n xs) ≡ take (n - 1) (drop 1 xs)
 less_one zero xs = refl
@@ -144,6 +152,11 @@ module _ (ring : List ℕ) (s : ℕ) (there : s < length ring) where
   pub words_laid : (ws : List ℕ) → length ws ≤ length ring → take (length ws) (round_from s (laid_from s ws ring)) ≡ ws
   unfolding laid_from
   words_laid ws h = ap (take (length ws)) (round_laid ws h) ∙ take-append_seam ws (drop (length ws) (round_from s ring))
+
+  -- no word leaves it as it was
+  pub laid_none : laid_from s [] ring ≡ ring
+  unfolding laid_from
+  laid_none = round_back ring s there
 
   -- one word more
   pub laid_more : (ws : List ℕ) (i : ℕ) → i < length ws → i < length ring

@@ -1,11 +1,10 @@
 -- What is said share by share, or address by address, in the words by which a chain of calls is proved.
 -- Assumes nothing.
 use Rattle.std.specs.Prelude.{List, [], ◌∷◌, ◌≡◌, refl, ℕ, ◌+◌, ◌-◌, ◌≤◌, ◌<◌, eqb, ltb, length, take, drop, min}
-use Rattle.std.specs.List.{count_by, fold, list_any, list_all, slice_index_or}
+use Rattle.std.specs.List.{fold, list_any, list_all, slice_index_or}
 use Rattle.std.proofs.Common.{sym, ap, ◌∙◌, arith, take_all, ltb-true, ltb-false}
 use Rattle.std.proofs.lemmas.Iterator.{YieldsList}
 use Rattle.std.proofs.lemmas.Iterator.Consumers.{YieldsList-from_first}
-use Rattle.std.proofs.lemmas.List.Recursion.{is_count_by}
 use Rattle.std.specs.Iterator.{YieldsFirst}
 use Rattle.laws.specs.Pick.{by}
 use Rattle.shares.specs.Arranging.{larger, largest_from}
@@ -56,11 +55,6 @@ pub all_counted_is : (shares : List Share) (list : List ℕ) → all_counted sha
 unfolding all_counted
 all_counted_is [] list = refl
 all_counted_is (s ∷ shares) list = rw (all_counted_is shares list)
-
-pub count_is : (address : ℕ) (list : List ℕ) → count address list ≡ count_by (λ there. eqb there address) list
-unfolding count
-count_is address list =
-    is_count_by (count address) (λ there. eqb there address) refl (λ x xs. by (eqb x address) (λ e. rw e (omega arith)) (λ e. rw e (omega arith))) list
 
 -- ---- what goes through all shares
 
