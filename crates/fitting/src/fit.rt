@@ -46,6 +46,8 @@ fn fit_units(cells: &mut [u16], setup: &[u32])
     }
 }
 
+// Out of line, so that a refusal before it takes none of its stack.
+#[inline(never)]
 pub fn fit_link(cells: &mut [u16], setup: &[u32])
     requires setup_value { set_up_good setup.now ≡ true }
     requires setup_in_bounds { unit_place (count_of setup.now) ≤ length cells.old }

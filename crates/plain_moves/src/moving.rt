@@ -18,7 +18,7 @@ use plain::places::{behind_of, front_of, without_oldest};
 use words::bits::{bit_at, bits_at, rcr, rsr, tcr, tsr};
 
 // TX NPR, loaded, no error bit, room, RD SILO clear, and not ending, which only an open transmitter is. A length below 64 is a ring's cell
-// below 64 x 64.
+// below 64 x 64. The tests of a cell stand together: they become one.
 pub fn may_move_out(cells: &[u16], unit: usize) -> bool
     requires { Fitted cells.now unit }
     ensures { result ≡ T.may_move (transmitter_of cells.now unit) }
@@ -26,10 +26,10 @@ pub fn may_move_out(cells: &[u16], unit: usize) -> bool
     let head = Head::load(cells, HEADER + unit * BLOCK + TRANSMITTER);
     bit_at(head.control, tcr::TX_NPR)
         & bit_at(head.control, LOADED)
-        & (bits_at(head.status, tsr::OVERUN, 6) == 0)
-        & (head.ring < 4096)
         & !bit_at(head.control, tcr::RD_SILO)
+        & (bits_at(head.status, tsr::OVERUN, 6) == 0)
         & !(bit_at(head.status, tsr::DTIRDY) & bit_at(head.status, tsr::BUSY))
+        & (head.ring < 4096)
 }
 
 // RC NPR, a word, and no error bit.

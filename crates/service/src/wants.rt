@@ -12,20 +12,22 @@ ghost use Rattle.transmitter.specs.Requests as TR;
 use crate::levels::{receiver_level, transmitter_level};
 use cells::layout::{BLOCK, HEADER, RECEIVER, TRANSMITTER};
 use cells::units::count;
+use codec::end_cells::{CONTROL, RING};
 use codec::head::Head;
 use plain_moves::moving::{may_move_in, may_move_out};
 use words::bits::{bit_at, rcr, tcr};
 
-// Whether a transmitter may move. TX NPR and room are looked at first: most sides have TX NPR clear, or send and have a full silo.
+// Whether a transmitter may move. TX NPR and room are looked at first, one after the other and each by its cell alone: most sides have TX
+// NPR clear, or send and have a full silo. Where the whole head is loaded first, the ring is tested before the bit.
 fn wants_out(cells: &[u16], unit: usize) -> bool
     requires { Fitted cells.now unit }
     ensures { result ≡ T.may_move (transmitter_of cells.now unit) }
 {
-    let head = Head::load(cells, HEADER + unit * BLOCK + TRANSMITTER);
-    if !bit_at(head.control, tcr::TX_NPR) {
+    let at = HEADER + unit * BLOCK + TRANSMITTER;
+    if !bit_at(cells[at + CONTROL], tcr::TX_NPR) {
         return false;
     }
-    if head.ring >= 4096 {
+    if cells[at + RING] >= 4096 {
         return false;
     }
     may_move_out(cells, unit)

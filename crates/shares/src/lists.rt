@@ -1,18 +1,30 @@
 // Whether a list is one that the planner asks for.
-ghost use Rattle.std.specs.Prelude.{◌≡◌};
+ghost use Rattle.std.specs.Prelude.{◌≡◌, ◌<◌, ◌^◌, length};
 ghost use Rattle.shares.specs.Lists.{count, last_of};
 ghost use Rattle.shares.specs.Tested.{differ, all_named, all_counted, loadable};
 ghost use Rattle.shares.specs.Wanted.{shares_in};
 
 use crate::wanted::{names, shares_in};
 
+// How often an address stands in a part that 16 bits can count: the processor holds eight of its addresses against it at once.
+fn count_in_part(part: &[u16], address: u16) -> u16
+    requires { length part.now < 2 ^ 16 }
+    ensures { result ≡ count address part.now }
+{
+    let mut found = 0;
+    for &there in part {
+        found += u16::from(there == address);
+    }
+    found
+}
+
 /// How often an address stands in a list.
 pub fn count_in(list: &[u16], address: u16) -> usize
     ensures { result ≡ count address list.now }
 {
     let mut found = 0;
-    for &there in list {
-        found += usize::from(there == address);
+    for part in list.chunks(usize::from(u16::MAX)) {
+        found += usize::from(count_in_part(part, address));
     }
     found
 }
