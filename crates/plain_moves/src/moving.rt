@@ -18,7 +18,7 @@ use plain::places::{behind_of, front_of, without_oldest};
 use words::bits::{bit_at, bits_at, rcr, rsr, tcr, tsr};
 
 // TX NPR, loaded, no error bit, room, RD SILO clear, and not ending, which only an open transmitter is. A length below 64 is a ring's cell
-// below 64 x 64. The tests of a cell stand together: they become one.
+// below 64 x 64. The tests of a cell stand together: the compiler makes those of the control cell one.
 pub fn may_move_out(cells: &[u16], unit: usize) -> bool
     requires { Fitted cells.now unit }
     ensures { result ≡ T.may_move (transmitter_of cells.now unit) }

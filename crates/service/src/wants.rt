@@ -18,7 +18,7 @@ use plain_moves::moving::{may_move_in, may_move_out};
 use words::bits::{bit_at, rcr, tcr};
 
 // Whether a transmitter may move. TX NPR and room are looked at first, one after the other and each by its cell alone: most sides have TX
-// NPR clear, or send and have a full silo. Where the whole head is loaded first, the ring is tested before the bit.
+// NPR clear, or send and have a full silo. Of a head that is loaded at once the compiler tests the ring before the bit.
 fn wants_out(cells: &[u16], unit: usize) -> bool
     requires { Fitted cells.now unit }
     ensures { result ≡ T.may_move (transmitter_of cells.now unit) }

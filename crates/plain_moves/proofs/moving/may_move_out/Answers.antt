@@ -7,8 +7,9 @@ use Rattle.plain_moves.proofs.Laws.MayMove.{may_out_at}
 use Rattle.plain_moves.specs.Moving.{room_by}
 use Rattle.plain_moves.proofs.moving.may_move_out.Goals as goal
 
-by_cell : (loaded faults room write ready : Bool) → loaded && write && faults && ready && room ≡ loaded && faults && room && write && ready
-by_cell loaded faults room write ready = grind rules
+by_cell : (loaded no_error room no_read not_ending : Bool)
+    → loaded && no_read && no_error && not_ending && room ≡ loaded && no_error && room && no_read && not_ending
+by_cell loaded no_error room no_read not_ending = grind rules
 
 pub returns : goal.returns
 returns c =
